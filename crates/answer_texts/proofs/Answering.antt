@@ -1,4 +1,5 @@
--- Answers have no floats, so their compact texts are stated, and the list of verdicts grows by a text at a time.
+-- Answers have no floats, so the texts of their compact forms are specified. The list of verdicts grows by one text at
+-- a time.
 use Rattle.std.proofs.Common.{◌≡◌, ℕ, List, [], ◌∷◌, ◌++◌, false, refl, ap, ◌∙◌}
 use Rattle.serde_json.specs.Data.{string, item, no_items}
 use Rattle.serde_json.specs.Written.{items_have_float}

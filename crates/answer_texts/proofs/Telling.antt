@@ -1,4 +1,4 @@
--- Each check that is told on an upload's items is one: there is a check of its number.
+-- Each check that a verdict on an upload's items reports exists: there is a check of its number.
 use Rattle.std.proofs.Common.{◌≡◌, ℕ, List, [], ◌∷◌, ◌++◌, map, Bool, true, false, cond, Option, Some, None, option_map, unwrap_or, refl, subst, sym}
 use Rattle.std.specs.List.{All}
 use Rattle.std.specs.Prelude.{IfSome}
@@ -22,7 +22,7 @@ use Rattle.register_judge.specs.Sittings.{is_at_limit}
 use Rattle.register_judge.specs.Taking.{item_checks, take, verdict, verdict_of, writes_of}
 use Rattle.answer_texts.specs.Answers.{IsTold}
 
--- there is a check of each finding's number
+-- there is a check of the number of each finding
 abbrev AreNumbered : List Finding → Type 0
 AreNumbered [] = Unit {0}
 AreNumbered (finding ∷ findings) = IsNumber finding.number × AreNumbered findings
@@ -136,7 +136,7 @@ all_told rules table sitting (raw ∷ raws) =
     let given = verdict table sitting (ready rules raw) in
     All-cons IsTold given _ (of_raw rules table sitting raw) (all_told rules (put_all (writes_of given (ready rules raw)) table) sitting raws)
 
--- a text that there is
+-- the text of a check that has one
 pub told_text : (told : Option Text) (text bytes : Text) → told ≡ Some text → IfSome told (λ written. bytes ≡ written) → bytes ≡ unwrap_or told []
 told_text None text bytes is writes = cc
 told_text (Some told) text bytes is writes = writes

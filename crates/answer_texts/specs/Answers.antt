@@ -1,4 +1,4 @@
--- The texts of answers: JSON objects in their compact form, with their names in byte order (RFC 8259).
+-- The texts of answers: JSON objects (RFC 8259) in their compact form, with their names in byte order.
 use Rattle.std.specs.Prelude.{ℕ, ℤ, List, [], ◌∷◌, codes, map, unwrap_or}
 use Rattle.serde_json.specs.Data.{Data, number, unsigned, string, array, object, Items, no_items, item, member, no_members}
 use Rattle.serde_json.specs.Written.{compact_text}
@@ -8,7 +8,7 @@ use Rattle.register_judge.specs.declared.outcome.Verdict.{Verdict}
 use Rattle.lei_records.specs.Checks.{IsNumber, check_text}
 use Rattle.upload_ledger.specs.declared.totals.Totals.{Totals}
 
--- what is answered when an issuer is accredited by the entry of this number
+-- the answer when the entry of this number accredits an issuer
 abbrev pub accreditation_answer : ℕ → Lei → Data
 accreditation_answer entry issuer =
     object (member (codes "entry") (number (unsigned entry)) (member (codes "issuer") (string issuer) no_members))
@@ -17,12 +17,12 @@ accreditation_answer entry issuer =
 unfoldable pub accreditation_text : ℕ → Lei → Text
 accreditation_text entry issuer = compact_text (accreditation_answer entry issuer)
 
--- `ACCEPTED`, or how the check that fails is told. Each check that is told has such a text, which is a law.
+-- `ACCEPTED`, or the text of the check that fails. A law says that each check that is reported has such a text.
 abbrev pub verdict_text : Verdict → Text
 verdict_text Verdict.Accepted = codes "ACCEPTED"
 verdict_text (Verdict.Rejected check) = unwrap_or (check_text check) []
 
--- where the verdict is that a check fails, there is a check of its number
+-- if the verdict is that a check fails, there is a check of this number
 abbrev pub IsTold : Verdict → Type 0
 IsTold Verdict.Accepted = Unit {0}
 IsTold (Verdict.Rejected check) = IsNumber check.number
@@ -32,7 +32,7 @@ abbrev pub strings : List Text → Items
 strings [] = no_items
 strings (text ∷ texts) = item (string text) (strings texts)
 
--- what is answered to the issuer's upload of this number, taken by the entry of that number
+-- the answer to the issuer's upload of this number, taken by the entry of that number
 abbrev pub upload_answer : ℕ → Lei → Items → ℕ → Data
 upload_answer entry issuer items upload =
     object (member (codes "entry") (number (unsigned entry)) (member (codes "issuer") (string issuer)
@@ -43,8 +43,8 @@ unfoldable pub upload_text : ℕ → Lei → ℕ → List Verdict → Text
 upload_text entry issuer upload verdicts =
     compact_text (upload_answer entry issuer (strings (map verdict_text verdicts)) upload)
 
--- what is answered when a publication is made by the entry of this number: its moment, its own number, and how many
--- records, relationships and exceptions it has
+-- the answer when the entry of this number makes a publication: its moment, its own number, and how many records,
+-- relationships and exceptions it has
 abbrev pub publication_answer : ℕ → ℕ → ℤ → ℕ × ℕ × ℕ → Data
 publication_answer entry publication moment counts =
     object (member (codes "contentDate") (string (moment_text moment))
@@ -59,8 +59,8 @@ unfoldable pub publication_text : ℕ → ℕ → ℤ → ℕ × ℕ × ℕ → 
 publication_text entry publication moment counts = compact_text
     (publication_answer entry publication moment counts)
 
--- what is answered of the numbers of entries, issuers, bytes of bodies and publications, and of the numbers of
--- records, relationships and exceptions that are held; annulled relationships are counted
+-- the answer to a request for the status. It has the numbers of entries, issuers, bytes of bodies and publications. It
+-- also has the numbers of records, relationships and exceptions that are held, annulled relationships included
 abbrev pub status_answer : Totals → ℕ × ℕ × ℕ → Data
 status_answer totals held =
     object (member (codes "entries") (number (unsigned totals.entries))

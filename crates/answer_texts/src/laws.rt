@@ -1,4 +1,4 @@
-//! A law of the definitions: the contract of a function that does nothing.
+//! A law of the definitions, stated as the contract of a function that does nothing.
 ghost use Rattle.std.specs.Prelude.{List, All, map};
 ghost use Rattle.lei_records.specs.Items.{ready};
 ghost use Rattle.lei_records.specs.Tables.{Table};
@@ -8,8 +8,8 @@ ghost use Rattle.register_judge.specs.declared.sitting.Sitting.{Sitting};
 ghost use Rattle.register_judge.specs.Taking.{take};
 ghost use Rattle.answer_texts.specs.Answers.{IsTold};
 
-/// Each check that is told of an item of an upload, by whichever rules it was read, has a number that a check has, and
-/// so a text.
+/// Each check that a verdict on an item of an upload reports has a number in the list of checks, and so a text. This
+/// holds for any rules by which the item was prepared.
 pub fn verdicts_are_told()
     ensures { (rules : Rules) (table : Table) (sitting : Sitting) (raws : List RawItem) →
         All IsTold (take table sitting (map (ready rules) raws)).verdicts }

@@ -1,4 +1,4 @@
-// The texts of answers.
+//! Builds the texts of answers.
 ghost use Rattle.std.specs.Prelude.{◌≡◌, IfOk, IsAscii, map, string_bytes};
 ghost use Rattle.serde_json.specs.View.{view, items_view};
 ghost use Rattle.answer_texts.specs.Answers.{accreditation_answer, accreditation_text, publication_answer, publication_text, status_answer, status_text, upload_answer, upload_text, verdict_text, strings};
@@ -12,7 +12,7 @@ use std::alloc::Global;
 use std::str;
 use upload_ledger::Totals;
 
-// What is answered when the issuer is accredited by the entry of this number.
+// The answer to an accreditation of the issuer by the entry of this number.
 pub fn accreditation_text(alloc: Global, entry: u64, issuer: &Lei) -> Result<Bytes, NoMemory>
     ensures { IfOk result (λ text. text ≡ accreditation_text entry issuer.now) }
 {
@@ -26,7 +26,7 @@ fn accreditation_answer(alloc: Global, entry: u64, issuer: &Lei) -> Result<Value
     Ok(json!(in alloc; {"entry": entry, "issuer": issuer.as_str()})?)
 }
 
-// What is answered to the issuer's upload of this number, taken by the entry of that number.
+// The answer to the issuer's upload of this number, taken by the entry of that number.
 pub fn upload_text(
     alloc: Global,
     entry: u64,
@@ -59,8 +59,8 @@ fn upload_answer(
     })?)
 }
 
-// What is answered when a publication is made at this moment by the entry of that number: its own number, and how many
-// records, relationships and exceptions it has.
+// The answer to a publication that is made at this moment by the entry of that number. It has the publication's own
+// number, and how many records, relationships and exceptions the publication has.
 pub fn publication_text(
     alloc: Global,
     entry: u64,
@@ -95,7 +95,7 @@ fn publication_answer(
     })?)
 }
 
-// The text of bytes that are ASCII.
+// The text of ASCII bytes.
 fn ascii(bytes: &[u8]) -> &str
     requires { IsAscii bytes.now }
     ensures { result.now ≡ bytes.now }
@@ -106,7 +106,8 @@ fn ascii(bytes: &[u8]) -> &str
     }
 }
 
-// What is answered of the numbers of what is kept, and of the records, relationships and exceptions that are held.
+// The answer to a request for the status: the totals of the ledger, and the numbers of records, relationships and
+// exceptions that are held.
 pub fn status_text(alloc: Global, totals: Totals, held: (u64, u64, u64)) -> Result<Bytes, NoMemory>
     ensures { IfOk result (λ text. text ≡ status_text totals held) }
 {
@@ -129,7 +130,7 @@ fn status_answer(alloc: Global, totals: Totals, held: (u64, u64, u64)) -> Result
     })?)
 }
 
-// `ACCEPTED`, or the check that fails, with what it names.
+// `ACCEPTED`, or the name of the check that fails with its detail.
 fn verdict_text(alloc: Global, verdict: &Verdict) -> Result<String, NoMemory>
     ensures { IfOk result (λ text. string_bytes text ≡ verdict_text verdict.now) }
 {

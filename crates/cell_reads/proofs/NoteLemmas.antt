@@ -1,4 +1,4 @@
--- What noting cells adds to those that were read: one cell, and several.
+-- What noting one cell or several adds to the list of those that were read.
 use Rattle.std.specs.Prelude.{◌≡◌, ◌<◌, ◌+◌, ◌-◌, ℕ, zero, suc, List, [], ◌∷◌, ◌++◌, map, slice_get, Some, None, IsTrue}
 use Rattle.std.specs.List.{Contains}
 use Rattle.std.specs.Option.{option_map_or}
@@ -21,7 +21,7 @@ none_in key at = search rules
 only : (own key : CellKey) → Contains (own ∷ []) key → own ≡ key
 only own key at = search rules
 
--- nothing is noted
+-- noting no cells changes nothing
 pub notes-none : (cells : Cells) (reads : Listed) → NotesCells cells reads reads []
 notes-none cells reads = record {
   grows = λ key found at. at;
@@ -43,7 +43,7 @@ notes-listed cells reads own listed = notes-covered cells reads own (inr listed)
 pub notes-lacking : (cells : Cells) (reads : Listed) (own : CellKey) → IsTrue (lacks cells own) → NotesCells cells reads reads (own ∷ [])
 notes-lacking cells reads own lacking = notes-covered cells reads own (inl lacking)
 
--- a cell is listed after the others
+-- a cell is appended to the list
 answers_more : (cells : Cells) (old : Listed) (own : CellKey) (had : CellSeen) → HasCell cells own had → AnswersReads old cells
     → AnswersReads (old ++ (own, had) ∷ []) cells
 answers_more cells old own had has answers key found at =
@@ -62,13 +62,13 @@ notes-added cells old new own had is has =
       covers = λ key at. subst (IsCovered (old ++ (own, had) ∷ []) cells) (only own key at) (inr (had, Contains-push old (own, had)));
     })
 
--- what is covered stays so as the list grows
+-- a covered cell stays covered as the list grows
 covered_later : (cells : Cells) (old new : Listed) (keys : List CellKey) (key : CellKey) → NotesCells cells old new keys
     → IsCovered old cells key → IsCovered new cells key
 covered_later cells old new keys key notes (inl lacking) = inl lacking
 covered_later cells old new keys key notes (inr listed) = inr (listed.0, notes.grows key listed.0 listed.1)
 
--- some cells are noted, and then others
+-- noting some cells, and then others, is noting all of them
 pub notes-then : (cells : Cells) (old between new : Listed) (first second : List CellKey) → NotesCells cells old between first
     → NotesCells cells between new second → NotesCells cells old new (first ++ second)
 notes-then cells old between new first second before after = record {
@@ -82,16 +82,16 @@ notes-then cells old between new first second before after = record {
 
 -- ---- a walk
 
--- the cells of the first so many members of a walk
+-- the cells of the first n members of a walk
 abbrev pub walk_keys : ℕ → SeenNext → (List ℕ → CellKey) → List ℕ → List CellKey
 walk_keys n answers cell first = map cell (members n (known answers) first)
 
--- what notes so many members from this one on notes the whole walk
+-- noting the members that are left, from this one on, completes the noting of the whole walk
 abbrev pub GoesOn : Cells → Listed → Listed → ℕ → SeenNext → (List ℕ → CellKey) → List ℕ → List ℕ → Type 0
 GoesOn cells old now left answers cell member first =
     (last : Listed) → NotesCells cells now last (walk_keys left answers cell member) → NotesCells cells old last (walk_keys 200 answers cell first)
 
--- the walk from a member is its cell, and the walk from the one that it names
+-- the cells of a walk from a member are its own, and those of the walk from the member that it names
 keys-suc : (n : ℕ) (answers : SeenNext) (cell : List ℕ → CellKey) (member : List ℕ)
     → walk_keys (suc n) answers cell member ≡ cell member ∷ map cell (option_map_or (members n (known answers)) (known answers member) [])
 unfolding members
@@ -123,7 +123,7 @@ module _ (cells : Cells) (old now after : Listed) (answers : SeenNext) (cell : L
       goes_on last (subst P (sym (ap (λ n. walk_keys n answers cell member) (one_less c less) ∙ keys-next (200 - (c + 1)) answers cell member next is))
       (notes-then cells now after last (cell member ∷ []) (walk_keys (200 - (c + 1)) answers cell next) noted rest))
 
-  -- the walk is known no further
+  -- no next member is known
   walk-last : c < 200 → GoesOn cells old now (200 - c) answers cell member first → NotesCells cells now after (cell member ∷ [])
       → held (answers member) ≡ None → NotesCells cells old after (walk_keys 200 answers cell first)
   walk-last less goes_on noted is =
@@ -138,7 +138,7 @@ module _ (cells : Cells) (old now after : Listed) (answers : SeenNext) (cell : L
       → answers member ≡ Seen.Missing → NotesCells cells old after (walk_keys 200 answers cell first)
   walk-lacks less goes_on noted is = walk-last less goes_on noted (ap held is)
 
--- all members were noted
+-- no members are left: all were noted
 pub walk-all : (cells : Cells) (old now : Listed) (answers : SeenNext) (cell : List ℕ → CellKey) (member first : List ℕ) (left : ℕ) → left ≡ 0
     → GoesOn cells old now left answers cell member first → NotesCells cells old now (walk_keys 200 answers cell first)
 walk-all cells old now answers cell member first left is goes_on =
@@ -147,7 +147,7 @@ walk-all cells old now answers cell member first left is goes_on =
 
 -- ---- successors
 
--- the record of the first successor is one of those that are named
+-- the record of the first successor is among those that are named
 pub first_named : (successors : List (List ℕ)) (lei : List ℕ) → slice_get successors 0 ≡ Some lei → Contains (map CellKey.Rec successors) (CellKey.Rec lei)
 first_named [] lei is = cc
 first_named (successor ∷ successors) lei is = (0, omega arith, let same : successor ≡ lei = cc in ap CellKey.Rec same)

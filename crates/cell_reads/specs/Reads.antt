@@ -1,4 +1,4 @@
--- Cells that were read, and which views answer as they did. This project's profile.
+-- Cells that were read, and which views agree with them. This project's profile.
 use Rattle.std.specs.Prelude.{◌≡◌, List}
 use Rattle.std.specs.List.{Contains}
 use Rattle.lei_records.specs.declared.view.CellKey.{CellKey}
@@ -10,8 +10,8 @@ use Rattle.lei_records.specs.Tables.{Table, cells_of, seen, seen_fact}
 abbrev pub Listed : Type 0
 Listed = List (CellKey × CellSeen)
 
--- The cell of this key has this. An empty cell has `None`, and that of an exception which doesn't stand has `false`. A
--- cell that a view lacks has nothing of the kind.
+-- The cell with this key has this value. It is `None` for an empty cell, and `false` if the empty cell is that of an
+-- exception. A cell that the view lacks has no value.
 abbrev pub HasCell : Cells → CellKey → CellSeen → Type 0
 HasCell cells (CellKey.Rec lei) (CellSeen.Rec found) = cells.record_cell lei ≡ seen found
 HasCell cells (CellKey.Rel start kind end) (CellSeen.Rel found) = cells.relation start kind end ≡ seen found
@@ -21,11 +21,11 @@ HasCell cells (CellKey.Key authority id) (CellSeen.Key found) = cells.holder aut
 HasCell cells (CellKey.Act start kind) (CellSeen.Act found) = cells.active start kind ≡ seen found
 HasCell cells key found = ⊥
 
--- Each cell that is listed has what is listed of it.
+-- Each listed cell has the value that is listed for it.
 abbrev pub AnswersReads : Listed → Cells → Type 0
 AnswersReads reads cells = (key : CellKey) (found : CellSeen) → Contains reads (key, found)
     → HasCell cells key found
 
--- A table agrees with reads: each cell that they list, empty ones too, is that of the table.
+-- A table agrees with reads: it has in each listed cell, empty ones included, what is listed.
 abbrev pub Agrees : Listed → Table → Type 0
 Agrees reads table = AnswersReads reads (cells_of table)

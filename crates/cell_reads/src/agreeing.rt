@@ -1,4 +1,4 @@
-//! Whether a view still answers as it was read.
+//! Whether a view still has what was read from it.
 ghost use Rattle.std.specs.Prelude.{◌↔◌, IsTrue};
 ghost use Rattle.std.specs.List.{All};
 ghost use Rattle.cell_reads.specs.Reads.{AnswersReads, HasCell};
@@ -6,7 +6,7 @@ ghost use Rattle.cell_reads.specs.Reads.{AnswersReads, HasCell};
 use crate::cells::has_cell;
 use lei_records::{CellKey, CellSeen, Reads, View};
 
-/// Whether a view has in each cell that was read what was read of it, empty cells too. It takes no memory.
+/// Whether a view has in each listed cell what was read from it, empty cells included. It allocates no memory.
 pub fn agrees<V: View>(view: &V, reads: &Reads) -> bool
     ensures { IsTrue result ↔ AnswersReads reads.now (V.cells view.now) }
 {

@@ -8,7 +8,7 @@ ghost use Rattle.cell_reads.specs.Reads.{HasCell};
 use lei_code::Lei;
 use lei_records::{CellKey, CellSeen, RecCell, RelCell, Seen, View};
 
-/// What a view has in the cell of a key, and `None` if it lacks the cell.
+/// What a view has in the cell with this key, or `None` if the view lacks the cell.
 pub fn found_in<V: View>(view: &V, key: &CellKey) -> Option<CellSeen>
     ensures { MatchOption result (IsTrue (lacks (V.cells view.now) key.now))
         (λ found. HasCell (V.cells view.now) key.now found) }
@@ -28,7 +28,7 @@ pub fn found_in<V: View>(view: &V, key: &CellKey) -> Option<CellSeen>
     }
 }
 
-// What a cell has, and `None` if the view doesn't know it.
+// What the cell has, or `None` if the view lacks the cell.
 fn known<T: Copy>(seen: Seen<T>) -> Option<Option<T>>
     ensures { MatchOption result (seen ≡ SeenCell.Missing) (λ found. seen ≡ Tables.seen found) }
 {
@@ -39,7 +39,7 @@ fn known<T: Copy>(seen: Seen<T>) -> Option<Option<T>>
     }
 }
 
-// Whether something stands, and `None` if the view doesn't know it.
+// Whether the cell has something, or `None` if the view lacks the cell.
 fn known_fact(seen: Seen<()>) -> Option<bool>
     ensures { MatchOption result (seen ≡ SeenCell.Missing) (λ stands. seen ≡ Tables.seen_fact stands) }
 {
@@ -50,7 +50,7 @@ fn known_fact(seen: Seen<()>) -> Option<bool>
     }
 }
 
-/// Whether a view has this in the cell of a key.
+/// Whether a view has this value in the cell with this key.
 pub fn has_cell<V: View>(view: &V, key: &CellKey, found: &CellSeen) -> bool
     ensures { IsTrue result ↔ HasCell (V.cells view.now) key.now found.now }
 {

@@ -1,5 +1,5 @@
-//! Which cells of a table an item needs, the cells that were read, and whether a view still answers as they did. This
-//! project's profile.
+//! Which cells of a table an item needs, a list of the cells that were read, and whether a view still agrees with that
+//! list. This project's profile.
 #![tactic(auto)]
 
 mod agreeing;

@@ -26,7 +26,7 @@ pub fn keys_of(alloc: Global, items: &[Readied]) -> Result<Vec<CellKey>, NoMemor
     Ok(keys)
 }
 
-/// Adds the keys of the cells that an item names.
+/// Appends the keys of the cells that an item names.
 pub fn push_names(alloc: Global, keys: &mut Vec<CellKey>, item: &Readied) -> Result<(), NoMemory>
     ensures { OnOk result (keys.new.items ≡ keys.old.items ++ names item.now) }
 {
@@ -61,7 +61,7 @@ fn push_key(
     Ok(())
 }
 
-// The cells of these records.
+// Appends the keys of these records.
 fn push_records(keys: &mut Vec<CellKey>, leis: &[Lei]) -> Result<(), NoMemory>
     ensures { OnOk result (keys.new.items ≡ keys.old.items ++ map Key.Rec leis.now) }
 {
@@ -78,7 +78,8 @@ fn push_relation_names(keys: &mut Vec<CellKey>, item: &Relation) -> Result<(), N
     push_stand_in(keys, item.start(), parent_category(item.kind()))
 }
 
-// The records of its start and its end, the relationship itself, and the active one of its start and type.
+// Appends four keys: the records of the start and the end, the relationship itself, and the active relationship with
+// its start and type.
 fn push_ends(keys: &mut Vec<CellKey>, item: &Relation) -> Result<(), NoMemory>
     ensures { let start = start_in item.now in let end = end_in item.now in let kind = kind_in item.now in
         OnOk result (keys.new.items ≡ keys.old.items
@@ -91,7 +92,7 @@ fn push_ends(keys: &mut Vec<CellKey>, item: &Relation) -> Result<(), NoMemory>
     Ok(())
 }
 
-// The exception that would stand in the place of a parent.
+// Appends the key of the exception that would replace such a parent, if there is a category for it.
 fn push_stand_in(
     keys: &mut Vec<CellKey>,
     start: Lei,

@@ -1,4 +1,4 @@
-//! The cells that were read, as items are judged.
+//! The cells that are read while items are judged.
 ghost use Rattle.std.specs.Prelude.{◌≡◌, ◌++◌, ◌∷◌, [], if◌then◌else◌, map, IsTrue, OnOk};
 ghost use Rattle.lei_records.specs.declared.view.CellKey.{CellKey};
 ghost use Rattle.lei_records.specs.Cells.{lei_in, successor_in, successors_in};
@@ -21,15 +21,15 @@ use std::collections::BTreeMap;
 use std::marker::Model;
 use successor_rules::{Chain, SuccessorBranches, SuccessorChain, reach};
 
-// The members of a walk whose cells are noted.
+// The most members of a walk whose cells are noted.
 const MOST_MEMBERS: u8 = 200;
 
-/// Cells that were read, each with what it had. Contracts see their list.
+/// The cells that were read, each with what it had. Contracts see them as a list.
 #[derive(Drop)]
 pub struct Noted {
     reads: Vec<(CellKey, CellSeen)>,
-    // Where the cell of a record, or of the end of a start and a type, may stand among the reads. A place is looked at
-    // before it is believed. The cells of the other kinds are listed each time that they are noted.
+    // The index in `reads` at which the cell of a record, or of the active relationship with a start and a type, may
+    // be. An index is checked before it is used. The cells of the other kinds are listed each time they are noted.
     records: BTreeMap<Lei, usize>,
     ends: BTreeMap<(Lei, &'static str), usize>,
 }
@@ -43,7 +43,7 @@ impl Model for Noted {
 }
 
 impl Noted {
-    /// No cells.
+    /// An empty list.
     pub fn new(alloc: Global) -> Self
         ensures { result ≡ [] }
     {
@@ -54,14 +54,14 @@ impl Noted {
         }
     }
 
-    /// All of them.
+    /// The list of the cells.
     pub fn into_reads(self) -> Reads
         ensures { result ≡ self }
     {
         List::from(self.reads)
     }
 
-    // Whether the cell is listed, as far as its place is known.
+    // Whether the cell with this key is listed. It may be `false` for a listed cell whose index isn't known.
     fn lists(&self, key: &CellKey) -> bool
         ensures { IsTrue result → IsListed self.now key.now }
     {
@@ -127,9 +127,9 @@ fn set_end(
     }
 }
 
-/// Notes the cells that an item needs by the rules and the answers of `over`, as `below` has them. So where accepted
-/// items lie over a view, what is noted is what the view itself has. A cell that `below` lacks isn't noted. After an
-/// `Err` some of them may be noted.
+/// Notes the cells that an item needs by the rules and by the answers of `over`, each with what `below` has in it. So
+/// if `over` is a view with accepted items on top of `below`, what is noted is what the view below has. A cell that
+/// `below` lacks isn't noted. After an `Err`, some of the cells may be noted.
 pub fn note_needs<V: View, W: View>(
     alloc: Global,
     rules: Rules,
@@ -255,7 +255,7 @@ fn note_parents<V: View, W: View>(
     }
 }
 
-// The cells in which the members of a walk name the next one, from the first member on.
+// Notes the cells in which the members of a walk name the next one, starting with the first member.
 fn note_walk<V: View, C: Chain>(
     below: &V,
     chain: &C,

@@ -19,7 +19,7 @@ IsPlain byte = (byte == 34) ≡ false
 
 -- ---- a text
 
--- a quote of a text is read after the one that stands before it
+-- a quote that another byte follows closes the text
 behind_quote : (b : ℕ) (rest : List ℕ) → (b == 34) ≡ false → text_from (34 ∷ b ∷ rest) false ≡ Some ([], b ∷ rest)
 behind_quote b rest other = ap (λ t. cond t (with_front (34 ∷ []) (text_from rest false)) (Some ([], b ∷ rest))) other
 
@@ -35,12 +35,12 @@ text_again (x ∷ text) b rest other = elim (eqb_tells x 34) [
       ∙ ap (with_front (x ∷ [])) (text_again text b rest other)
 ]
 
--- the bytes that are read, with the quote before them that the flag tells of
+-- the bytes to read, preceded by a quote if the flag says so
 abbrev opened : Bool → List ℕ → List ℕ
 opened true bytes = 34 ∷ bytes
 opened false bytes = bytes
 
--- what is read is what is printed so
+-- what was read, printed again, gives the bytes
 abbrev TextTaken : List ℕ → Bool → Option (List ℕ × List ℕ) → Type 0
 TextTaken bytes closed None = ⊤
 TextTaken bytes closed (Some read) = opened closed bytes ≡ flat_map doubled read.0 ++ 34 ∷ read.1
@@ -149,7 +149,7 @@ no_quote : (more : ℕ) → (separator_of more == 34) ≡ false
 no_quote zero = refl
 no_quote (suc more) = refl
 
--- the first field of a line
+-- a line, given what its first field was read as
 abbrev first_then : ℕ → Option (List ℕ × List ℕ) → Option (List Text × List ℕ)
 first_then more None = None
 first_then more (Some read) = with_text read.0 (line_from more read.1)
@@ -172,7 +172,7 @@ line_again (text ∷ texts) rest =
     ∙ ap (first_then (length texts)) (field_again text b (line texts ++ rest) (no_quote (length texts)))
     ∙ ap (with_text text) (line_again texts rest)
 
--- a line of more fields is no line of fewer
+-- a field that one byte follows isn't read as a field that another byte follows
 field-other : (text : List ℕ) (b c : ℕ) (rest : List ℕ) → (b == 34) ≡ false → (b == c) ≡ false
     → field_from c (quoted text ++ b ∷ rest) ≡ None
 field-other text b c rest other follows =
@@ -198,7 +198,7 @@ line-longer (suc (suc count)) (text ∷ next ∷ texts) rest some more =
     ∙ ap (first_then (suc count)) (field_again text 44 others refl)
     ∙ ap (with_text text) (line-longer (suc count) (next ∷ texts) rest (omega arith) (omega arith))
 
--- what is read is a line of so many texts
+-- what was read is a line of this many texts, followed by the rest
 abbrev pub LineTaken : ℕ → List ℕ → Option (List Text × List ℕ) → Type 0
 LineTaken count bytes None = ⊤
 LineTaken count bytes (Some read) = (bytes ≡ line read.0 ++ read.1) × (length read.0 ≡ count)
@@ -226,7 +226,7 @@ line_taken (suc more) bytes =
     subst F (sym (line-step more bytes)) (taken-line more bytes (field_from (separator_of more) bytes)
     (field_taken (separator_of more) bytes) (line_taken more))
 
--- ---- a text by its parts
+-- ---- a text that is read in parts
 
 pub with_front-front : (made part : List ℕ) (r : Option (List ℕ × List ℕ))
     → with_front made (with_front part r) ≡ with_front (made ++ part) r
@@ -263,7 +263,7 @@ closed-end (b ∷ rest) none = elim (eqb_tells b 34) [
 closed-more : (rest more : List ℕ) → rest ≡ 34 ∷ more → text_from rest true ≡ with_front (34 ∷ []) (text_from more false)
 closed-more rest more is = ap (λ l. text_from l true) is
 
--- a step of the loop over the parts of a text, and its ends
+-- a step of the loop over the parts of a text, and the ways in which the loop ends
 pub part-step : (old made new made' : List ℕ) → TakesPart old made true new made' → (more : List ℕ) → new ≡ 34 ∷ more
     → with_front (made' ++ 34 ∷ []) (text_from more false) ≡ with_front made (text_from old false)
 part-step old made new made' taken more is =
@@ -293,7 +293,7 @@ part-shorter old made new made' taken more is =
     let next : length new ≡ suc (length more) = ap length is in
     omega arith
 
--- ---- a byte that was stepped over
+-- ---- a byte that was skipped
 
 pub not_skipped : (b : ℕ) (bytes : List ℕ) → is_some (behind b bytes) ≡ false → behind b bytes ≡ None
 not_skipped b bytes e = nothing (behind b bytes) e
@@ -309,9 +309,9 @@ skipped b bytes rest e is = something (behind b bytes) (byte_taken b bytes) e is
     something None h e is = absurd (false≢true e)
     something (Some more) h e is = h ∙ ap (λ l. b ∷ l) (sym is)
 
--- ---- a line by its fields
+-- ---- a line that is read field by field
 
--- what was put after other bytes, and what is left
+-- a field was read: what was appended to other bytes, and what is left
 pub record TextRead (byte : ℕ) (made old made' rest : List ℕ) : Type 0 where
   pub text : List ℕ
   pub made_is : made' ≡ made ++ text
@@ -373,7 +373,7 @@ low : (more : ℕ) → separator_of more < 128
 low zero = omega arith
 low (suc more) = omega arith
 
--- a field of UTF-8 is UTF-8, and so is the rest
+-- if a field is read from UTF-8, its text is UTF-8, and so is the rest
 pub field-utf8 : (more : ℕ) (old text rest : List ℕ) → IsUtf8 old → field_from (separator_of more) old ≡ Some (text, rest)
     → IsUtf8 text × IsUtf8 rest
 field-utf8 more old text rest utf8 read =
@@ -388,12 +388,12 @@ field-utf8 more old text rest utf8 read =
       utf8_behind (quoted text) rest (separator_of more) (low more) all,
     )
 
--- ---- the rest of a line is UTF-8
+-- ---- the rest after one byte
 
 pub head_byte : (b : ℕ) (x y : List ℕ) → b ∷ x ≡ b ∷ y → x ≡ y
 head_byte b x y e = ap (drop 1) e
 
--- ---- several bytes
+-- ---- several bytes that are skipped
 
 pub skips_some : (old bytes front : List ℕ) → front ≡ take (length bytes) old → not (bytes_eq front bytes) ≡ false
     → old ≡ bytes ++ drop (length bytes) old

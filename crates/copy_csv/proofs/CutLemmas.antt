@@ -23,7 +23,7 @@ right : (a b : Bool) → (a && b) ≡ true → b ≡ true
 right true b p = p
 right false b p = absurd (false≢true p)
 
--- what one span says
+-- what `holds_text` says of one span
 pub record Holds (bytes : List ℕ) (span : Span) : Type 0 where
   pub ordered : span.start ≤ span.end
   pub within : span.end ≤ length bytes
@@ -59,7 +59,7 @@ holds_at bytes [] k d all within = absurd (omega arith)
 holds_at bytes (span ∷ spans) zero d all within = left _ _ all
 holds_at bytes (span ∷ spans) (suc k) d all within = holds_at bytes spans k d (right _ _ all) (omega arith)
 
--- bytes after those that are there change no part
+-- bytes that are appended change no part
 part-longer : (bytes more : List ℕ) (span : Span) → Holds bytes span → part (bytes ++ more) span ≡ part bytes span
 part-longer bytes more span h =
     let o : span.start ≤ span.end = h.ordered in
@@ -90,7 +90,7 @@ all-longer bytes more [] all = refl
 all-longer bytes more (span ∷ spans) all =
     both _ _ (holds-longer bytes more span (holds bytes span (left _ _ all))) (all-longer bytes more spans (right _ _ all))
 
--- the span of a text that stands at the end
+-- the span of a text at the end of the bytes
 part-last : (bytes text : List ℕ) (span : Span) → span.start ≡ length bytes → span.end ≡ length (bytes ++ text)
     → part (bytes ++ text) span ≡ text
 part-last bytes text span from to = rw (from, to, length-append bytes text) (last bytes text)
@@ -139,7 +139,7 @@ span-of_later ends (suc k) start end some within from to =
 
 -- ---- texts
 
--- a text after the others
+-- a text is appended to the others
 pub cut-push : (bytes text ends : List ℕ) (end : ℕ) → IsCut bytes ends → end ≡ length (bytes ++ text)
     → cut (bytes ++ text) (ends ++ end ∷ []) ≡ cut bytes ends ++ text ∷ []
 cut-push bytes text ends end is to =
@@ -209,7 +209,7 @@ text-at bytes ends place start end is first last found =
       | inr is ↦ ap (λ b. cond b [] (get_or texts (place - 1) [])) is.0
     ]
 
--- ---- all texts, one after the other
+-- ---- all texts, one directly after the other
 
 joined-spans : (bytes : List ℕ) (start : ℕ) (ends : List ℕ) → start ≤ length bytes → list_all (holds_text bytes) (spans start ends) ≡ true
     → concat (map (part bytes) (spans start ends)) ++ drop (last_end start ends) bytes ≡ drop start bytes

@@ -1,4 +1,4 @@
--- Whole files: the head that tells the width, and the lines after it.
+-- Whole files: the head that gives the width, and the lines after it.
 use Rattle.std.proofs.Common.{◌≡◌, ◌≢◌, ℕ, ◌+◌, ◌<◌, ◌==◌, Bool, true, false, Option, None, Some, List, [], ◌∷◌, ◌++◌, length, take, drop, refl, sym, ap, subst, ◌∙◌, arith, zero-add}
 use Rattle.std.specs.Prelude.{Err, codes, flat_map, IsErrOf, IsTrue}
 use Rattle.std.specs.Cmp.Lexicographic.{pointwise}
@@ -29,7 +29,7 @@ lines-differ xs ys a b some more e =
     let read : Read = (xs, a) in
     some≢none read (sym (line_again xs a) ∙ ap (line_from (length xs)) e ∙ line-longer (length xs) ys b some more)
 
--- the names at the head of a file of each width, as many as columns or one more
+-- the names at the head of a file of each width: one for each column, and the same number of extra ones in each file
 pub record AreNames (names : Bool → Sheet → List Text) : Type 0 where
   pub extra : ℕ
   pub long : (wide : Bool) (sheet : Sheet) → length (names wide sheet) ≡ extra + columns wide sheet
@@ -48,7 +48,7 @@ delta_names_are = record {
   one = λ sheet one. ap (λ l. codes "Delta.Action" ∷ l) (copy_names.one sheet one);
 }
 
--- the heads of two widths differ where the sheet has two
+-- the heads of the two widths differ if the sheet has two
 heads-differ : (names : Bool → Sheet → List Text) → AreNames names → (sheet : Sheet) → has_widths sheet ≡ true → (a b : List ℕ)
     → line (names false sheet) ++ a ≢ line (names true sheet) ++ b
 heads-differ names are Sheet.Lei two a b e =
@@ -58,7 +58,7 @@ heads-differ names are Sheet.Lei two a b e =
 heads-differ names are Sheet.Rr two a b e = absurd (false≢true two)
 heads-differ names are Sheet.Repex two a b e = absurd (false≢true two)
 
--- so a head tells the width
+-- so a head determines the width
 pub one_width : (names : Bool → Sheet → List Text) → AreNames names → (sheet : Sheet) (wide other : Bool) (a b : List ℕ)
     → (wide ≡ true → has_widths sheet ≡ true) → (other ≡ true → has_widths sheet ≡ true)
     → line (names wide sheet) ++ a ≡ line (names other sheet) ++ b → wide ≡ other
@@ -67,7 +67,7 @@ one_width names are sheet false false a b two too e = refl
 one_width names are sheet true false a b two too e = absurd (heads-differ names are sheet (two refl) b a (sym e))
 one_width names are sheet false true a b two too e = absurd (heads-differ names are sheet (too refl) a b e)
 
--- where no lines stand after either head, none do after that of any width
+-- if no lines follow either head, none follow the head of any width
 lines-none : (names : Bool → Sheet → List Text) → AreNames names → (sheet : Sheet) (bytes narrow wide : List ℕ)
     → narrow ≡ line (names false sheet) → wide ≡ line (names true sheet) → FindsBehind narrow wide bytes None
     → (width : Bool) (lines : List ℕ) → HasLines names sheet bytes width lines → ⊥
@@ -78,7 +78,7 @@ lines-none names are sheet bytes narrow wide narrow_is wide_is none true lines h
     (λ others e. heads-differ names are sheet (has.wide_is refl) others lines
     (ap (λ l. l ++ others) (sym narrow_is) ∙ sym e ∙ has.whole)) (has.whole ∙ ap (λ l. l ++ lines) (sym wide_is))
 
--- what was found after the one of two heads
+-- what was found after one of two heads
 pub lines-found : (names : Bool → Sheet → List Text) → AreNames names → (sheet : Sheet) (bytes narrow wide : List ℕ)
     → narrow ≡ line (names false sheet) → wide ≡ line (names true sheet) → (found : Option (Bool × List ℕ))
     → FindsBehind narrow wide bytes found → FindsLines names sheet bytes found
@@ -126,7 +126,7 @@ pub delta-is : (sheet : Sheet) (wide : Bool) (changes : List Change)
 unfolding csv_delta
 delta-is sheet wide changes = refl
 
--- two facts on each are one
+-- two facts about each item make one
 both-all : {X : Type 0} (P Q : X → Type 0) (xs : List X) → All P xs → All Q xs → All (λ x. P x × Q x) xs
 both-all P Q [] p q = All-nil (λ x. P x × Q x)
 both-all P Q (x ∷ xs) p q = All-cons (λ x. P x × Q x) x xs (All-head P x xs p, All-head Q x xs q)
@@ -142,7 +142,7 @@ second-all P Q [] all = All-nil Q
 second-all P Q (x ∷ xs) all = let here = All-head (λ x. P x × Q x) x xs all in
     All-cons Q x xs here.1 (second-all P Q xs (All-tail (λ x. P x × Q x) x xs all))
 
--- bytes that begin with one of two fronts
+-- bytes that start with one of two prefixes
 pub behind-head : (head bytes rest more : List ℕ) → bytes ≡ head ++ rest → bytes ≡ head ++ more → rest ≡ more
 behind-head head bytes rest more is other = append_cancel_left head rest more (sym is ∙ other)
 
@@ -157,7 +157,7 @@ begins-not head bytes rest test is =
     let same : take (length head) bytes ≡ head = ap (take (length head)) is ∙ take-append_seam head rest in
     false≢true (sym test ∙ (bytes_eq-Decides (take (length head) bytes) head).1 same)
 
--- a copy is the lines of its rows after its head
+-- a copy is its head, followed by the lines of its rows
 row_lines : (sheet : Sheet) (bytes : List ℕ) (wide : Bool) (rows : List SheetRow) → IsCsvCopy sheet bytes wide rows
     → HasLines names_shown sheet bytes wide (flat_map (row_line wide) rows)
 row_lines sheet bytes wide rows is = record {
@@ -170,7 +170,7 @@ pub copy-none : (sheet : Sheet) (bytes : List ℕ) → FindsLines names_shown sh
     → IsCsvCopy sheet bytes wide rows → ⊥
 copy-none sheet bytes none wide rows is = none wide (flat_map (row_line wide) rows) (row_lines sheet bytes wide rows is)
 
--- where its lines are those of no rows, the bytes are no copy
+-- if its lines aren't those of any rows, the bytes aren't a copy
 pub copy-others : (sheet : Sheet) (bytes : List ℕ) (wide : Bool) (lines : List ℕ) → HasLines names_shown sheet bytes wide lines
     → ((rows : List SheetRow) → AreRead (row_line wide) (IsRowIn sheet wide) key lines rows → ⊥)
     → (other : Bool) (rows : List SheetRow) → IsCsvCopy sheet bytes other rows → ⊥
@@ -195,7 +195,7 @@ copy-found sheet bytes wide lines has rows are = record {
   fit = second-all (IsRowOf sheet) (λ row. IsTrue (fits wide row)) rows are.good;
 }
 
--- the same of a delta
+-- the same for a delta
 change_lines : (sheet : Sheet) (bytes : List ℕ) (wide : Bool) (changes : List Change) → IsCsvDelta sheet bytes wide changes
     → HasLines delta_names sheet bytes wide (flat_map (change_line wide) changes)
 change_lines sheet bytes wide changes is = record {
@@ -234,7 +234,7 @@ delta-found sheet bytes wide lines has changes are = record {
 
 -- ---- a sheet with one width
 
--- files of as many columns show the same of a row
+-- files with the same number of columns have the same texts of a row
 one-line : (sheet : Sheet) (wide other : Bool) → columns wide sheet ≡ columns other sheet → (row : SheetRow) → IsRowOf sheet row
     → shown wide row ≡ shown other row
 one-line sheet wide other same row is =
@@ -269,13 +269,13 @@ delta-one_width sheet wide other same changes all =
     (one-lines (change_line wide) (change_line other) (IsChangeOf sheet) (one-change sheet wide other same) changes all)
     ∙ sym (delta-is sheet other changes)
 
--- a fault is the same whatever else might have been answered
+-- a fault is the same for each type of result
 pub same-fault : {T U : Type 0} (fault : FormFault) → IsErrOf {T = T} (Err fault) FormFault.NotRead
     → IsErrOf {T = U} (Err fault) FormFault.NotRead
 same-fault FormFault.NotRead err = refl
 same-fault FormFault.NoMemory err = cc
 
--- ---- no two lists have one text
+-- ---- two lists have different texts
 
 pub one_copy : (sheet : Sheet) (bytes : List ℕ) (wide other : Bool) (rows others : List SheetRow) → IsCsvCopy sheet bytes wide rows
     → IsCsvCopy sheet bytes other others → (wide ≡ other) × (rows ≡ others)

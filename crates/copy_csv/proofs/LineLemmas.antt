@@ -38,7 +38,7 @@ pub row-read : (count : ℕ) (texts : List Text) (old new : List ℕ) → Some (
 row-read count texts old new e =
     let F : Option Read → Type 0 = LineTaken count old in subst F (sym e) (line_taken count old)
 
--- where none was read, no line of so many fields stands next
+-- if none was read, no line of this many fields comes next
 line-none : (count : ℕ) (old : List ℕ) → None ≡ line_from count old → (texts : List Text) (rest : List ℕ) → length texts ≡ count
     → old ≢ line texts ++ rest
 line-none count old none texts rest long e =
@@ -94,7 +94,7 @@ put_text = refl
 drop_text : codes "DROP" ≡ 68 ∷ 82 ∷ 79 ∷ 80 ∷ []
 drop_text = refl
 
--- the line of a change is that of its row after what becomes of it
+-- the line of a change is that of its row, preceded by the action
 pub put-line : (texts : List Text) → 0 < length texts → line (codes "PUT" ∷ texts) ≡ put_bytes ++ line texts
 put-line [] some = absurd (omega arith)
 put-line (text ∷ texts) some = ap (λ l. quoted l ++ (44 ∷ line (text ∷ texts))) put_text
@@ -103,14 +103,14 @@ pub drop-line : (texts : List Text) → 0 < length texts → line (codes "DROP" 
 drop-line [] some = absurd (omega arith)
 drop-line (text ∷ texts) some = ap (λ l. quoted l ++ (44 ∷ line (text ∷ texts))) drop_text
 
--- the rest after what becomes of the key is UTF-8
+-- the rest after the action is UTF-8
 pub put-utf8 : (rest : List ℕ) → IsUtf8 (put_bytes ++ rest) → IsUtf8 rest
 put-utf8 rest is = utf8_behind (34 ∷ 80 ∷ 85 ∷ 84 ∷ 34 ∷ []) rest 44 (omega arith) is
 
 pub drop-utf8 : (rest : List ℕ) → IsUtf8 (drop_bytes ++ rest) → IsUtf8 rest
 drop-utf8 rest is = utf8_behind (34 ∷ 68 ∷ 82 ∷ 79 ∷ 80 ∷ 34 ∷ []) rest 44 (omega arith) is
 
--- the line of a change, after what becomes of its key
+-- the line of a change, split after the action
 pub put-print : (sheet : Sheet) (wide : Bool) (row : SheetRow) (rest : List ℕ) → IsRowOf sheet row
     → change_line wide (Change.Put row) ++ rest ≡ put_bytes ++ (row_line wide row ++ rest)
 put-print sheet wide row rest is = ap (λ l. l ++ rest) (put-line (shown wide row) (shown-some sheet wide row is))
@@ -212,11 +212,11 @@ text_at-next xs i = elim (eqb_tells (i + 1) 0) [
       ap (λ t. cond t [] (get_or xs (i + 1 - 1) [])) is.0 ∙ ap (λ n. get_or xs n []) same
 ]
 
--- the texts before a place are those of the front up to there
+-- a text of a list is the text of its prefix at the same place
 pub text_at-take : (xs : List Text) (n i : ℕ) → i < n → text_at xs (i + 1) ≡ text_at (take n xs) (i + 1)
 text_at-take xs n i before = text_at-next xs i ∙ sym (get_or-take n xs i [] before) ∙ sym (text_at-next (take n xs) i)
 
--- ---- a line by its fields
+-- ---- a line and its fields
 
 pub line-fields : (texts : List Text) → 0 < length texts → fields_text texts ++ 10 ∷ [] ≡ line texts
 line-fields [] some = absurd (omega arith)
@@ -230,7 +230,7 @@ fields-append [] ys some = absurd (omega arith)
 fields-append (x ∷ xs) ys some = ap (λ l. quoted x ++ l) (flat_map-append after_comma xs ys)
     ∙ sym (append_assoc (quoted x) (flat_map after_comma xs) (flat_map after_comma ys))
 
--- the line of a row by its start and what a wide file has more
+-- the line of a row consists of its start and of what a wide file has in addition
 pub row-joined : (wide : Bool) (row : SheetRow) → IsRow row
     → row_start row ++ ((if wide then row_tail row else []) ++ 10 ∷ []) ≡ row_line wide row
 row-joined false row is = line-fields (shown false row) (shown-some row.sheet false row (is, refl))
@@ -244,12 +244,12 @@ row-joined true row is =
     ∙ ap (λ l. fields_text l ++ 10 ∷ []) (sym split ∙ sym all)
     ∙ line-fields (shown true row) (shown-some row.sheet true row (is, refl))
 
--- of a row that fits a narrow file, what a wide one has more is empty fields
+-- if a row fits a narrow file, what a wide one has in addition is empty fields
 pub tail-empty : (sheet : Sheet) (row : SheetRow) → IsRowIn sheet false row
     → row_tail row ≡ flat_map after_comma (replicate (width sheet - columns false sheet) [])
 tail-empty sheet row is = ap (flat_map after_comma) (left_out-empty sheet false row is)
 
--- fields with a comma before each
+-- fields each preceded by a comma
 pub comma-fields : (texts : List Text) → 0 < length texts → 44 ∷ fields_text texts ≡ flat_map after_comma texts
 comma-fields [] some = absurd (omega arith)
 comma-fields (text ∷ texts) some = refl

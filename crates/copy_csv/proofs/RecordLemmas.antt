@@ -1,4 +1,4 @@
--- What the crate `csv` writes is a line of the definition, and its readers find the fields of each line.
+-- What the crate `csv` writes is a line as defined here, and its readers find the fields of each line.
 use Rattle.std.proofs.Common.{◌≡◌, ℕ, zero, suc, ◌+◌, ◌-◌, ◌<◌, ◌≤◌, Bool, false, cond, inl, inr, Some, List, [], ◌∷◌, ◌++◌, length, take, drop, refl, sym, ap, ◌∙◌, arith, append_assoc, length-append}
 use Rattle.std.specs.Borrow.{Bor}
 use Rattle.std.specs.Prelude.{flat_map, map, ⊤}
@@ -30,7 +30,7 @@ use Rattle.copy_csv.proofs.WidthLemmas.{columns-some, shown-some}
 
 -- ---- writing
 
--- in each style, the quotes of a field are doubled
+-- with any quoting style, the quotes in a field are doubled
 escaped-doubled : (style : QuoteStyle) (flexible : Bool) (x : Text)
     → escaped (with_flexible (with_style default_writer style) flexible) x ≡ flat_map doubled x
 unfolding escaped
@@ -62,7 +62,7 @@ unfolding is_blank
 none-blank x [] = ne_eqb (length (written.quoted all_quoted x)) 0 (λ z. cc z)
 none-blank x (y ∷ xs) = refl
 
--- a record that is written is the line of its fields
+-- a record as it is written is the line of its fields
 pub record-line : (fields : List Text) → 0 < length fields → row_text all_quoted fields ≡ line fields
 record-line [] some = absurd (omega arith)
 record-line (x ∷ xs) some =
@@ -93,20 +93,20 @@ closed-record : (before : List Text) (x : Text) (rest : List ℕ)
 unfolding next_record
 closed-record before x rest = refl
 
--- a line opens with a quote
+-- a line starts with a quote
 line-opened : (x : Text) (xs : List Text) (rest : List ℕ)
     → line (x ∷ xs) ++ rest ≡ 34 ∷ (flat_map doubled x ++ 34 ∷ separator xs ∷ (line xs ++ rest))
 line-opened x xs rest =
     ap (λ l. 34 ∷ l) (append_assoc (flat_map doubled x ++ 34 ∷ []) (separator xs ∷ line xs) rest
     ∙ append_assoc (flat_map doubled x) (34 ∷ []) (separator xs ∷ (line xs ++ rest)))
 
--- a field, after its first quote
+-- a field after its opening quote
 field-read : (before : List Text) (x : Text) (rest : List ℕ)
     → next_record default_config st.InQuoted before [] (flat_map doubled x ++ 34 ∷ rest) ≡ next_record default_config st.AfterQuote before x rest
 field-read before x rest =
     ap (λ l. next_record default_config st.InQuoted before [] (l ++ 34 ∷ rest)) (sym (escaped-doubled _ _ x)) ∙ quoted-run before [] x rest
 
--- the fields of a line, after its first quote
+-- the fields of a line after its opening quote
 fields-read : (before : List Text) (x : Text) (xs : List Text) (rest : List ℕ)
     → next_record default_config st.InQuoted before [] (flat_map doubled x ++ 34 ∷ separator xs ∷ (line xs ++ rest))
     ≡ Some (before ++ x ∷ xs, st.StartRecord, rest)
@@ -150,7 +150,7 @@ line-long : (fields : List Text) → 0 < length fields → 0 < length (line fiel
 line-long [] some = absurd (omega arith)
 line-long (x ∷ xs) some = let long : suc (length (drop 1 (line (x ∷ xs)))) ≡ length (line (x ∷ xs)) = refl in omega arith
 
--- a text is longer than it has lines
+-- a text has at least as many bytes as lines
 rows-long : {X : Type 0} (fields_of : X → List Text) (Good : X → Type 0) → ((x : X) → Good x → 0 < length (fields_of x))
     → (xs : List X) → All Good xs → length xs < suc (length (flat_map (λ x. line (fields_of x)) xs))
 rows-long fields_of Good each [] all = omega arith
@@ -160,7 +160,7 @@ rows-long fields_of Good each (x ∷ xs) all =
     let both = length-append (line (fields_of x)) (flat_map (λ x. line (fields_of x)) xs) in
     omega arith
 
--- a text that begins with a quote begins with no byte order mark
+-- a text that starts with a quote doesn't start with a byte order mark
 unmarked : (rest : List ℕ) → strip_bom (34 ∷ rest) ≡ 34 ∷ rest
 unfolding strip_bom
 unmarked [] = refl
@@ -172,7 +172,7 @@ line-unmarked [] rest some = absurd (omega arith)
 line-unmarked (x ∷ xs) rest some =
     ap strip_bom (line-opened x xs rest) ∙ unmarked (flat_map doubled x ++ 34 ∷ separator xs ∷ (line xs ++ rest)) ∙ sym (line-opened x xs rest)
 
--- the records of a file: its names, and the fields of each line after them
+-- the records of a file: its names, and then the fields of each line after them
 file-read : {X : Type 0} (fields_of : X → List Text) (Good : X → Type 0) → ((x : X) → Good x → 0 < length (fields_of x))
     → (names : List Text) → 0 < length names → (xs : List X) → All Good xs
     → records_read (line names ++ flat_map (λ x. line (fields_of x)) xs) ≡ names ∷ map fields_of xs
@@ -218,9 +218,9 @@ delta-records sheet wide changes =
     ap records_read (delta-is sheet wide changes)
     ∙ file-read (change_fields wide) Anything (λ change is. change-some wide change) (delta_names wide sheet) (omega arith) changes (all-changes changes)
 
--- ---- texts that are lent
+-- ---- borrowed texts
 
--- the front of some texts, and what stands after a front
+-- the first texts of a list, and those after them
 pub lent-front : (n : ℕ) (texts : List (Bor Text)) → read_texts (take n texts) ≡ take n (read_texts texts)
 lent-front zero texts = refl
 lent-front (suc n) [] = refl
@@ -235,7 +235,7 @@ pub lent-some : (texts : List (Bor Text)) → 0 < length texts → 0 < length (r
 lent-some [] some = absurd (omega arith)
 lent-some (text ∷ texts) some = omega arith
 
--- one more of some texts is lent
+-- one more text is borrowed
 pub lent-step : (lent : List (Bor Text)) (texts : List Text) (i : ℕ) (text : Bor Text) → i < length lent → i < length texts
     → text.now ≡ text_at texts (i + 1) → read_texts (take i lent) ≡ take i texts
     → read_texts (take (i + 1) (slice_set lent i text)) ≡ take (i + 1) texts
@@ -249,7 +249,7 @@ pub lent-all : (lent : List (Bor Text)) (texts : List Text) (i : ℕ) → i ≡ 
     → read_texts (take (length texts) lent) ≡ texts
 lent-all lent texts i all is = ap (λ n. read_texts (take n lent)) (sym all) ∙ is ∙ take_all i texts (omega arith)
 
--- the texts from a place up to another one are those that are lent there
+-- the first of the borrowed texts are the first texts
 pub lent-part : (lent : List (Bor Text)) (texts : List Text) (n : ℕ) → n ≤ length texts → read_texts (take (length texts) lent) ≡ texts
     → read_texts (take n lent) ≡ take n texts
 lent-part lent texts n within all =
@@ -261,7 +261,7 @@ lent-part lent texts n within all =
     take-within (suc n) (suc m) [] within = refl
     take-within (suc n) (suc m) (x ∷ xs) within = ap (λ l. x ∷ l) (take-within n m xs (omega arith))
 
--- and those after a place
+-- and the same for those after a place
 pub lent-rest : (lent : List (Bor Text)) (texts : List Text) (n full : ℕ) → full ≡ length texts → n < full
     → read_texts (take (length texts) lent) ≡ texts → read_texts (take (full - n) (drop n lent)) ≡ drop n texts
 lent-rest lent texts n full all some is =
@@ -269,15 +269,15 @@ lent-rest lent texts n full all some is =
     ap read_texts (sym (drop-take n (full - n) lent)) ∙ lent-back n (take (n + (full - n)) lent)
     ∙ ap (λ m. drop n (read_texts (take m lent))) whole ∙ ap (drop n) is
 
--- ---- putting
+-- ---- appending
 
--- a line is put by a writer
+-- a writer appends a line
 pub line-put : (cfg : WriterBuilder) (out inner pending after : List ℕ) (fields : List Text) → 0 < length fields → cfg ≡ all_quoted
     → inner ≡ out → pending ≡ [] → after ≡ (inner ++ pending) ++ row_text cfg fields → after ≡ out ++ line fields
 line-put cfg out inner pending after fields some cfg_is inner_is none put =
     put ∙ (λ i. (inner_is i ++ none i) ++ row_text (cfg_is i) fields) ∙ (λ i. append-nil out i ++ record-line fields some i)
 
--- what a writer holds once nothing is pending
+-- what is under a writer's buffer after nothing is pending
 pub flushed : (under pending before all : List ℕ) → under ++ pending ≡ before → pending ≡ [] → before ≡ all → under ≡ all
 flushed under pending before all same none is =
     sym (append-nil under) ∙ ap (λ l. under ++ l) (sym none) ∙ same ∙ is
@@ -294,7 +294,7 @@ line-open bytes fields n some long is =
     let last : length (fields_text fields) ≡ n - 1 = omega arith in
     ap (take (n - 1)) ends ∙ take_at (fields_text fields) (10 ∷ []) (n - 1) last
 
--- so is the first of two lines, up to before where the second begins, and the second after that
+-- so is the first of two lines, up to the byte before the start of the second, and so is the second, after that
 pub lines-front : (bytes : List ℕ) (fields others : List Text) (n : ℕ) → 0 < length fields → bytes ≡ line fields ++ line others
     → n ≡ length (line fields) → take (n - 1) bytes ≡ fields_text fields
 lines-front bytes fields others n some is long =
@@ -313,7 +313,7 @@ lines-back bytes fields others n end some is long whole =
     ap (take (end - 1 - n)) (ap (drop n) is ∙ drop_at (line fields) (line others) n (sym long))
     ∙ ap (λ m. take m (line others)) left ∙ line-open (line others) others (length (line others)) some refl refl
 
--- two lines, and where the second begins
+-- two lines, and the offset at which the second starts
 pub record TwoLines (bytes : List ℕ) (fields others : List Text) (n : ℕ) : Type 0 where
   pub lines : bytes ≡ line fields ++ line others
   pub begins : n ≡ length (line fields)
@@ -330,13 +330,13 @@ two-lines out bytes fields others n some more none put long =
     let two = line-long others more in
     record { lines = is; begins = begins; first = omega arith; within = omega arith }
 
--- a comma, and further fields
+-- a comma, and the further fields
 pub further-put : (out next after : List ℕ) (fields : List Text) → 0 < length fields → out ≡ [] → next ≡ out ++ 44 ∷ []
     → after ≡ next ++ fields_text fields → after ≡ flat_map after_comma fields
 further-put out next after fields some none comma put =
     put ∙ ap (λ l. l ++ fields_text fields) (comma ∙ ap (λ l. l ++ 44 ∷ []) none) ∙ comma-fields fields some
 
--- no sheet has more than 32 texts
+-- a row of any sheet has at most 32 texts
 pub width-most : (sheet : Sheet) → width sheet ≤ 32
 width-most Sheet.Lei = omega arith
 width-most Sheet.Rr = omega arith

@@ -1,4 +1,4 @@
--- Lists that are printed one item after the other, and read so again.
+-- Lists that are printed item by item, and read back in the same way.
 use Rattle.std.proofs.Common.{◌≡◌, ◌≢◌, ℕ, zero, suc, ◌+◌, ◌-◌, ◌<◌, inl, inr, true, false, None, Some, List, [], ◌∷◌, ◌++◌, length, get_or, map, refl, sym, ap, subst, ◌∙◌, arith, append_assoc, length-append}
 use Rattle.std.specs.Prelude.{flat_map}
 use Rattle.std.specs.List.{All, slice_get}
@@ -33,7 +33,7 @@ got [] k d within = absurd (omega arith)
 got (x ∷ xs) zero d within = refl
 got (x ∷ xs) (suc k) d within = got xs k d (omega arith)
 
--- the last of a list, and whether one comes after it
+-- whether an item comes after the last one of a list
 behind_is : {X : Type 0} (key : X → KeyTexts) (y : X) (made : List X) (x : X)
     → is_behind key (y ∷ made) x ≡ is_lt (key_cmp (key (get_or (y ∷ made) (length made) x)) (key x))
 behind_is key y made x =
@@ -41,7 +41,7 @@ behind_is key y made x =
     ap (λ n. comes_after key (slice_get (y ∷ made) n) x) last
     ∙ ap (λ o. comes_after key o x) (got (y ∷ made) (length made) x (omega arith))
 
--- the last key of a list and the one after it
+-- in a list whose keys rise, each item comes after the one before it
 pub behind_last : {X : Type 0} (key : X → KeyTexts) (made : List X) (x : X) (more : List X) → AreRising (map key (made ++ x ∷ more))
     → is_behind key made x ≡ true
 behind_last key [] x more rising = refl
@@ -58,7 +58,7 @@ behind_last key (y ∷ made) x more rising =
     Less-from_sorted key_cmp (map key xs) n (suc n) [] rising (omega arith) (omega arith) in
     behind_is key y made x ∙ ap is_lt (sym (λ i. key_cmp (last i) (next i)) ∙ below)
 
--- the keys of a list and of one more, at a place
+-- the key at a place of a list to which an item is appended
 key_at : {X : Type 0} (key : X → KeyTexts) (made : List X) (x : X) (k : ℕ) → k < length made
     → get_or (map key (made ++ x ∷ [])) k [] ≡ key (get_or made k x)
 key_at key made x k within =
@@ -94,7 +94,7 @@ pub rising-nil : AreRising []
 unfolding IsStrictlySortedBy
 rising-nil = tt
 
--- one more after the last
+-- an item is appended after the last one
 pub rising-push : {X : Type 0} (key : X → KeyTexts) (made : List X) (x : X) → AreRising (map key made) → is_behind key made x ≡ true
     → AreRising (map key (made ++ x ∷ []))
 rising-push key [] x rising behind = sorted_from_all_adjacent key_total (key x ∷ []) [] (λ k within. absurd (omega arith))
@@ -106,7 +106,7 @@ rising-push key (y ∷ made) x rising behind =
 module _ {X : Type 0} (print : X → List ℕ) (Good : X → Type 0) (key : X → KeyTexts)
     (one_way : (x y : X) (a b : List ℕ) → Good x → Good y → print x ++ a ≡ print y ++ b → (x ≡ y) × (a ≡ b))
     (some : (x : X) (rest : List ℕ) → Good x → print x ++ rest ≢ []) where
-  -- how a list goes on after the items that were read
+  -- how a list continues after the items that were read
   record GoesOn (made xs : List X) (rest : List ℕ) : Type 0 where
     more : List X
     is : xs ≡ made ++ more
@@ -134,20 +134,20 @@ module _ {X : Type 0} (print : X → List ℕ) (Good : X → Type 0) (key : X �
   good_more : (made xs more : List X) → All Good xs → xs ≡ made ++ more → All Good more
   good_more made xs more goods is = let F : List X → Type 0 = All Good in All-behind Good made more (subst F is goods)
 
-  -- no two lists are printed as one text
+  -- two different lists have different printed forms
   pub one_list : (xs ys : List X) → All Good xs → All Good ys → flat_map print xs ≡ flat_map print ys → xs ≡ ys
   one_list xs ys good goods e =
       let on : GoesOn xs ys [] = goes_on xs ys [] good goods (append-nil (flat_map print xs) ∙ e) in
       sym (on.is ∙ ap (λ l. xs ++ l) (nothing_more on.more (good_more xs ys on.more goods on.is) on.rest_is) ∙ append-nil xs)
 
-  -- what is printed of one more
+  -- the printed form of a list with one more item
   pub printed-push : (all : List ℕ) (made : List X) (x : X) (old new : List ℕ) → all ≡ flat_map print made ++ old → old ≡ print x ++ new
       → all ≡ flat_map print (made ++ x ∷ []) ++ new
   printed-push all made x old new e is =
       e ∙ ap (λ l. flat_map print made ++ l) is ∙ sym (append_assoc (flat_map print made) (print x) new)
       ∙ ap (λ l. (flat_map print made ++ l) ++ new) (sym (append-nil (print x))) ∙ ap (λ l. l ++ new) (sym (flat_map-append print made (x ∷ [])))
 
-  -- where no good one stands next, no list is printed so
+  -- if no good item comes next, the bytes are no printed list
   pub none_next : (all : List ℕ) (made : List X) (old new : List ℕ) → All Good made → all ≡ flat_map print made ++ old → 0 < length old
       → Reads print Good old None new → (xs : List X) → AreRead print Good key all xs → ⊥
   none_next all made old new good e some_left none xs are =
@@ -158,7 +158,7 @@ module _ {X : Type 0} (print : X → List ℕ) (Good : X → Type 0) (key : X �
       next [] goods is = absurd (let none_left : length old ≡ 0 = ap length is in omega arith)
       next (x ∷ more) goods is = none x (flat_map print more) (All-head Good x more goods) is
 
-  -- where the next one isn't after the last, no list with rising keys is printed so
+  -- if the next item doesn't come after the last one, the bytes are no printed list with rising keys
   pub not_behind : (all : List ℕ) (made : List X) (x : X) (old new : List ℕ) → All Good made → all ≡ flat_map print made ++ old
       → Reads print Good old (Some x) new → is_behind key made x ≡ false → (xs : List X) → AreRead print Good key all xs → ⊥
   not_behind all made x old new good e read behind xs are =
@@ -175,7 +175,7 @@ module _ {X : Type 0} (print : X → List ℕ) (Good : X → Type 0) (key : X �
           let wrong : is_behind key made y ≡ false = subst F same.0 behind in
           false≢true (sym wrong ∙ behind_last key made y more rising)
 
-  -- what printing makes of one isn't empty
+  -- the printed form of an item isn't empty
   pub shorter : (x : X) (old new : List ℕ) → Reads print Good old (Some x) new → length new < length old
   shorter x old new read =
       let long : length old ≡ length (print x) + length new = ap length read.0 ∙ length-append (print x) new in

@@ -28,7 +28,7 @@ row_len-width Sheet.Lei = refl
 row_len-width Sheet.Rr = refl
 row_len-width Sheet.Repex = refl
 
--- a table of fields that is the sheet's
+-- an entry of the borrowed table of a sheet's fields
 abbrev pub Lent : Type 0
 Lent = Bor Text × Content × Need
 

@@ -11,7 +11,7 @@ use Rattle.copy_csv.specs.Csv.{doubled}
 pub utf8_byte : (b : ℕ) → b < 128 → IsUtf8 (b ∷ [])
 utf8_byte b low = IsUtf8-from_ascii (b ∷ []) (search (rules, low))
 
--- what stands before and after an ASCII byte
+-- the bytes before and after an ASCII byte
 pub utf8_before : (front back : List ℕ) (b : ℕ) → b < 128 → IsUtf8 (front ++ b ∷ back) → IsUtf8 front
 utf8_before front back b low is =
     let all : List ℕ = front ++ b ∷ back in
@@ -35,7 +35,7 @@ utf8_behind front back b low is =
 pub utf8_joined : (front back : List ℕ) (b : ℕ) → b < 128 → IsUtf8 front → IsUtf8 back → IsUtf8 (front ++ b ∷ back)
 utf8_joined front back b low f k = IsUtf8-append front (b ∷ back) f (IsUtf8-append (b ∷ []) back (utf8_byte b low) k)
 
--- a field whose quotes are doubled is UTF-8, where the field is
+-- if a field is UTF-8, so is the field with its quotes doubled
 pub utf8_doubled : (front text : List ℕ) → IsUtf8 (front ++ text) → IsUtf8 (front ++ flat_map doubled text)
 utf8_doubled front [] is = is
 utf8_doubled front (b ∷ text) is = elim (eqb_tells b 34) [
@@ -53,7 +53,7 @@ utf8_doubled front (b ∷ text) is = elim (eqb_tells b 34) [
       (utf8_doubled (front ++ b ∷ []) text (subst G (sym (append_assoc front (b ∷ []) text)) is)))
 ]
 
--- and the other way round
+-- and conversely
 pub utf8_undoubled : (front text back : List ℕ) → IsUtf8 (front ++ (flat_map doubled text ++ 34 ∷ back)) → IsUtf8 (front ++ text)
 utf8_undoubled front [] back is =
     let G : List ℕ → Type 0 = IsUtf8 in

@@ -1,4 +1,4 @@
--- What files of each width show of rows.
+-- The texts of rows that files of each width have.
 use Rattle.std.proofs.Common.{◌≡◌, ℕ, zero, suc, ◌+◌, ◌-◌, ◌<◌, ◌≤◌, Bool, true, false, ◌&&◌, inl, inr, List, [], ◌∷◌, ◌++◌, length, drop, refl, sym, ap, ◌∙◌, arith, append_assoc, length-append}
 use Rattle.std.specs.Prelude.{replicate}
 use Rattle.std.specs.List.{list_all}
@@ -29,7 +29,7 @@ columns-all Sheet.Lei = refl
 columns-all Sheet.Rr = refl
 columns-all Sheet.Repex = refl
 
--- a sheet with one width has it in files that are said to be wide, too
+-- a sheet with one width has that width in files that are called wide, too
 pub columns-one : (sheet : Sheet) (wide : Bool) → has_widths sheet ≡ false → columns wide sheet ≡ width sheet
 columns-one Sheet.Lei wide one = absurd (false≢true (sym one))
 columns-one Sheet.Rr wide one = refl
@@ -44,7 +44,7 @@ key-within wide Sheet.Repex = omega arith
 pub row_width : (sheet : Sheet) (row : SheetRow) → IsRowOf sheet row → length row.texts ≡ width sheet
 row_width sheet row is = is.0.full ∙ ap width is.1
 
--- a row of the sheet shows a text in each column
+-- a row of the sheet has a text for each column
 pub length-shown : (sheet : Sheet) (wide : Bool) (row : SheetRow) → IsRowOf sheet row → length (shown wide row) ≡ columns wide sheet
 length-shown sheet wide row is =
     let all = row_width sheet row is in
@@ -55,7 +55,7 @@ length-shown sheet wide row is =
 pub shown-some : (sheet : Sheet) (wide : Bool) (row : SheetRow) → IsRowOf sheet row → 0 < length (shown wide row)
 shown-some sheet wide row is = let some = columns-some wide sheet in let long = length-shown sheet wide row is in omega arith
 
--- ---- what is not shown
+-- ---- texts that a file leaves out
 
 and-parts : (a b : Bool) → (a && b) ≡ true → (a ≡ true) × (b ≡ true)
 and-parts true b e = (refl, e)
@@ -77,20 +77,20 @@ pub absent-replicate : (n : ℕ) → list_all is_absent (replicate n []) ≡ tru
 absent-replicate zero = refl
 absent-replicate (suc n) = absent-replicate n
 
--- of a row that fits, only empty texts are left out
+-- only empty texts of a row that fits are left out
 pub left_out-empty : (sheet : Sheet) (wide : Bool) (row : SheetRow) → IsRowIn sheet wide row
     → left_out wide row ≡ replicate (width sheet - columns wide sheet) []
 left_out-empty sheet wide row is =
     absent-all (left_out wide row) is.1
     ∙ ap (λ m. replicate m []) (length-drop (columns wide row.sheet) row.texts ∙ (λ i. row_width sheet row is.0 i - columns wide (is.0.1 i)))
 
--- so it is what is shown of it, with empty texts after that
+-- so the row consists of the texts that the file has, followed by empty texts
 pub fitted : (sheet : Sheet) (wide : Bool) (row : SheetRow) → IsRowIn sheet wide row
     → row.texts ≡ shown wide row ++ replicate (width sheet - columns wide sheet) []
 fitted sheet wide row is =
     sym (take-append-drop (columns wide row.sheet) row.texts) ∙ ap (λ l. shown wide row ++ l) (left_out-empty sheet wide row is)
 
--- and what is shown tells the row
+-- and those texts determine the row
 pub same_shown : (sheet : Sheet) (wide : Bool) (x y : SheetRow) → IsRowIn sheet wide x → IsRowIn sheet wide y
     → shown wide x ≡ shown wide y → x ≡ y
 same_shown sheet wide x y is_x is_y e =
@@ -101,7 +101,7 @@ same_shown sheet wide x y is_x is_y e =
 
 -- ---- rows that fit
 
--- where a file has a column for each field, each row fits
+-- if a file has a column for each field, each row fits
 pub fits-all : (sheet : Sheet) (wide : Bool) (row : SheetRow) → IsRowOf sheet row → columns wide sheet ≡ width sheet → fits wide row ≡ true
 fits-all sheet wide row is all =
     let full : length row.texts ≡ width sheet = row_width sheet row is in
@@ -118,7 +118,7 @@ all-drop p zero xs all = all
 all-drop p (suc n) [] all = refl
 all-drop p (suc n) (x ∷ xs) all = all-drop p n xs (and-parts (p x) (list_all p xs) all).1
 
--- a key that stands alone fits each file
+-- a row that has only a key fits each file
 pub fits-alone : (wide : Bool) (row : SheetRow) → is_key_alone row ≡ true → fits wide row ≡ true
 fits-alone wide row alone =
     let k : ℕ = key_len row.sheet in
@@ -128,9 +128,9 @@ fits-alone wide row alone =
     ap (list_all is_absent) (ap (λ m. drop m row.texts) (sym split) ∙ sym (drop-drop (n - k) k row.texts))
     ∙ all-drop is_absent (n - k) (drop k row.texts) (alone-absent (drop k row.texts) alone)
 
--- ---- rows that are filled
+-- ---- rows that are filled up
 
--- the texts of a line, with an empty one for each column that it lacks, are the row whose line it is
+-- a line's texts, with an empty text for each column that it lacks, are the row whose line it is
 pub filled-shown : (sheet : Sheet) (wide : Bool) (texts : List Text) (n : ℕ) → length texts ≡ columns wide sheet
     → shown wide (row_of sheet (texts ++ replicate n [])) ≡ texts
 filled-shown sheet wide texts n long = take_at texts (replicate n []) (columns wide sheet) long
@@ -140,7 +140,7 @@ pub filled-fits : (sheet : Sheet) (wide : Bool) (texts : List Text) (n : ℕ) �
 filled-fits sheet wide texts n long =
     ap (list_all is_absent) (drop_at texts (replicate n []) (columns wide sheet) long) ∙ absent-replicate n
 
--- one more empty text is put, and none is left to put
+-- one more empty text is appended, and none is left to append
 pub filled-step : (texts : List Text) (count counter : ℕ) → counter < count
     → (texts ++ [] ∷ []) ++ replicate (count - (counter + 1)) [] ≡ texts ++ replicate (count - counter) []
 filled-step texts count counter before =

@@ -9,7 +9,7 @@ use Rattle.copy_csv.specs.declared.rows.TextChange.{TextChange}
 use Rattle.copy_csv.specs.Rows.{AreChanges, AreRows, changed_row}
 use Rattle.copy_csv.specs.Sheets.{SheetRow, fits, has_widths, left_out, names_shown, shown}
 
--- A byte of a field: a quote, the byte 34, stands twice.
+-- A byte of a field. A quote, which is the byte 34, is doubled.
 abbrev pub doubled : ℕ → List ℕ
 doubled byte = if byte == 34 then 34 ∷ 34 ∷ [] else byte ∷ []
 
@@ -17,7 +17,7 @@ doubled byte = if byte == 34 then 34 ∷ 34 ∷ [] else byte ∷ []
 abbrev pub quoted : Text → Text
 quoted text = 34 ∷ (flat_map doubled text ++ 34 ∷ [])
 
--- What stands after a field: a comma before a further one, and LF after the last.
+-- The byte after a field: a comma if a field follows, and LF after the last field.
 abbrev pub separator : List Text → ℕ
 separator [] = 10
 separator (text ∷ texts) = 44
@@ -31,7 +31,7 @@ line (text ∷ texts) = quoted text ++ (separator texts ∷ line texts)
 abbrev pub row_line : Bool → SheetRow → Text
 row_line wide row = line (shown wide row)
 
--- The fields of a change: what becomes of the key, and the texts of its row.
+-- The fields of a change: its action on the key, and the texts of its row.
 abbrev pub change_fields : Bool → Change → List Text
 change_fields wide (Change.Put row) = codes "PUT" ∷ shown wide row
 change_fields wide (Change.Drop row) = codes "DROP" ∷ shown wide row
@@ -40,67 +40,67 @@ change_fields wide (Change.Drop row) = codes "DROP" ∷ shown wide row
 abbrev pub change_line : Bool → Change → Text
 change_line wide change = line (change_fields wide change)
 
--- The names at the head of a delta: what becomes of the key, and the fields.
+-- The names at the head of a delta: that of the action, and those of the fields.
 abbrev pub delta_names : Bool → Sheet → List Text
 delta_names wide sheet = codes "Delta.Action" ∷ names_shown wide sheet
 
--- A copy of a width: a line with the names of the fields, and a line for each row.
+-- A copy of this width: a line with the names of the fields, and a line for each row.
 unfoldable pub csv_copy : Sheet → Bool → List SheetRow → Text
 csv_copy sheet wide rows = line (names_shown wide sheet) ++ flat_map (row_line wide) rows
 
--- A delta of a width: a line with the names of the fields, and a line for each change.
+-- A delta of this width: a line with the names of the columns, and a line for each change.
 unfoldable pub csv_delta : Sheet → Bool → List Change → Text
 csv_delta sheet wide changes = line (delta_names wide sheet) ++ flat_map (change_line wide) changes
 
--- The bytes are the copy of this width with these rows: rows of the sheet whose keys rise, and which have nothing for
--- the columns that the copy lacks. Only a sheet that has widths has a wide copy.
+-- The bytes are the copy of this width with these rows. The rows are of this sheet, their keys rise, and they have
+-- nothing for the columns that the copy lacks. Only a sheet that has widths has a wide copy.
 pub record IsCsvCopy (sheet : Sheet) (bytes : Text) (wide : Bool) (rows : List SheetRow) : Type 0 where
   pub text : bytes ≡ csv_copy sheet wide rows
   pub wide_is : wide ≡ true → has_widths sheet ≡ true
   pub rows_are : AreRows sheet rows
   pub fit : All (λ row. IsTrue (fits wide row)) rows
 
--- The same of a delta.
+-- The same for a delta.
 pub record IsCsvDelta (sheet : Sheet) (bytes : Text) (wide : Bool) (changes : List Change) : Type 0 where
   pub text : bytes ≡ csv_delta sheet wide changes
   pub wide_is : wide ≡ true → has_widths sheet ≡ true
   pub changes_are : AreChanges sheet changes
   pub fit : All (λ change. IsTrue (fits wide (changed_row change))) changes
 
--- ---- joined
+-- ---- lines that are joined from rendered texts
 
--- A field with the comma before it.
+-- A field preceded by a comma.
 abbrev pub after_comma : Text → Text
 after_comma text = 44 ∷ quoted text
 
--- Fields with a comma between each and the next.
+-- Fields separated by commas.
 abbrev pub fields_text : List Text → Text
 fields_text [] = []
 fields_text (text ∷ texts) = quoted text ++ flat_map after_comma texts
 
--- The start of a row's line, up to where the line of a narrow file ends.
+-- The start of a row's line, up to the end of the line in a narrow file, without LF.
 abbrev pub row_start : SheetRow → Text
 row_start row = fields_text (shown false row)
 
--- What the line of a wide file has more: the further fields, each with the comma before it. Only `lei` has any.
+-- What the line of a wide file has in addition: the further fields, each preceded by a comma. Only `lei` has any.
 abbrev pub row_tail : SheetRow → Text
 row_tail row = flat_map after_comma (left_out false row)
 
--- The line of a row that is rendered.
+-- The line of a row that was rendered.
 abbrev pub joined_line : Bool → RowTexts → Text
 joined_line wide texts = texts.csv ++ ((if wide then texts.tail else []) ++ 10 ∷ [])
 
--- What a delta has of a key: the texts of the row that is put, or the row of the key that is dropped.
+-- What a delta says about a key: the texts of the row that is put, or the row of the key that is dropped.
 pub data Rendered : Type 0 where
   put : RowTexts → Rendered
   drop : SheetRow → Rendered
 
--- The same of a change that refers to the texts of its row.
+-- The same for a change that refers to the texts of its row.
 abbrev pub rendered_in : TextChange → Rendered
 rendered_in (TextChange.Put texts) = Rendered.put texts.now
 rendered_in (TextChange.Drop row) = Rendered.drop row
 
--- The line of a change whose row is rendered.
+-- The line of a change that has the texts of its row.
 abbrev pub rendered_line : Bool → Rendered → Text
 rendered_line wide (Rendered.put texts) = codes "\"PUT\"," ++ joined_line wide texts
 rendered_line wide (Rendered.drop row) = codes "\"DROP\"," ++ row_line wide row

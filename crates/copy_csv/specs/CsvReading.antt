@@ -1,20 +1,20 @@
--- How a line of CSV is read from left to right. That this is the reading of what is printed is proved.
+-- How a line of CSV is read from left to right. It is proved that this reads back what is printed.
 use Rattle.std.specs.Prelude.{ℕ, zero, suc, List, [], ◌∷◌, ◌++◌, ◌==◌, Bool, true, false, if◌then◌else◌, Option, None, Some}
 use Rattle.std.specs.Option.{option_map}
 use Rattle.lei_code.specs.Texts.{Text}
 
--- The rest after a byte, where this byte stands first.
+-- The rest after a byte, if this byte comes first.
 abbrev pub behind : ℕ → List ℕ → Option (List ℕ)
 behind byte [] = None
 behind byte (first ∷ bytes) = if first == byte then Some bytes else None
 
--- What was read, with bytes that were read before it.
+-- What was read, preceded by bytes that were read before it.
 abbrev pub with_front : List ℕ → Option (List ℕ × List ℕ) → Option (List ℕ × List ℕ)
 with_front made None = None
 with_front made (Some read) = Some (made ++ read.0, read.1)
 
--- The text before its closing quote, and the rest after that. The flag tells that a quote stands before the bytes,
--- which closes the text unless another one follows it.
+-- The text before its closing quote, and the rest after that quote. The flag says that a quote precedes the bytes. That
+-- quote closes the text unless another one follows it.
 abbrev pub text_from : List ℕ → Bool → Option (List ℕ × List ℕ)
 text_from [] true = Some ([], [])
 text_from [] false = None
@@ -23,7 +23,7 @@ text_from (byte ∷ bytes) true =
 text_from (byte ∷ bytes) false =
     if byte == 34 then text_from bytes true else with_front (byte ∷ []) (text_from bytes false)
 
--- What was read, where this byte stands after it, and the rest after the byte.
+-- What was read, if this byte follows it, and the rest after the byte.
 abbrev pub before_byte : ℕ → Option (List ℕ × List ℕ) → Option (List ℕ × List ℕ)
 before_byte byte None = None
 before_byte byte (Some read) = option_map (λ rest. (read.0, rest)) (behind byte read.1)
@@ -37,12 +37,12 @@ text_in byte (Some rest) = before_byte byte (text_from rest false)
 abbrev pub field_from : ℕ → List ℕ → Option (List ℕ × List ℕ)
 field_from byte bytes = text_in byte (behind 34 bytes)
 
--- What follows a field: a comma where more follow, and else LF.
+-- The byte after a field: a comma if more fields follow, and LF otherwise.
 abbrev pub separator_of : ℕ → ℕ
 separator_of zero = 10
 separator_of (suc more) = 44
 
--- The texts that were read, with a text that was read before them.
+-- The texts that were read, preceded by a text that was read before them.
 abbrev pub with_text : Text → Option (List Text × List ℕ) → Option (List Text × List ℕ)
 with_text text None = None
 with_text text (Some read) = Some (text ∷ read.0, read.1)
@@ -52,7 +52,7 @@ abbrev pub with_texts : List Text → Option (List Text × List ℕ) → Option 
 with_texts texts None = None
 with_texts texts (Some read) = Some (texts ++ read.0, read.1)
 
--- The texts of a line of so many fields, and the rest after it.
+-- The texts of a line of this many fields, and the rest after it.
 abbrev pub line_from : ℕ → List ℕ → Option (List Text × List ℕ)
 line_from zero bytes = Some ([], bytes)
 line_from (suc more) bytes = elim (field_from (separator_of more) bytes) [

@@ -4,22 +4,22 @@ use Rattle.std.specs.List.{list_all}
 use Rattle.std.specs.Str.{is_utf8}
 use Rattle.lei_code.specs.Texts.{Text}
 
--- A part of some bytes: those from `start` to before `end`.
+-- A part of some bytes: from the offset `start` up to, but without, the offset `end`.
 pub record Span : Type 0 where
   pub start : ℕ
   pub end : ℕ
 
--- Parts that lie one after the other, the first of them from a place on, by where each ends.
+-- Parts that follow each other directly, given by the end of each. The first one starts at `start`.
 abbrev pub spans : ℕ → List ℕ → List Span
 spans start [] = []
 spans start (end ∷ ends) = record { start = start; end = end } ∷ spans end ends
 
--- Where the last of them ends.
+-- The end of the last one.
 abbrev pub last_end : ℕ → List ℕ → ℕ
 last_end start [] = start
 last_end start (end ∷ ends) = last_end end ends
 
--- The part at an index goes from here to there.
+-- The part at an index has this start and this end.
 abbrev pub IsSpan : List ℕ → ℕ → ℕ → ℕ → Type 0
 IsSpan ends index start end = (other : Span)
     → get_or (spans 0 ends) index other ≡ record { start = start; end = end }
@@ -28,16 +28,16 @@ IsSpan ends index start end = (other : Span)
 abbrev pub part : List ℕ → Span → Text
 part bytes span = take (span.end - span.start) (drop span.start bytes)
 
--- The parts of the bytes that end there.
+-- The parts of the bytes that have these ends. The first one starts at 0.
 abbrev pub cut : List ℕ → List ℕ → List Text
 cut bytes ends = map (part bytes) (spans 0 ends)
 
--- The span lies within the bytes, and its part is UTF-8 (RFC 3629).
+-- The span is within the bytes, and its part is UTF-8 (RFC 3629).
 abbrev pub holds_text : List ℕ → Span → Bool
 holds_text bytes span = nat_le span.start span.end && nat_le span.end (length bytes) && is_utf8
     (part bytes span)
 
--- Each of the parts is a text, and the last ends with the bytes.
+-- Each of the parts is a text, and the last one ends at the end of the bytes.
 pub record IsCut (bytes ends : List ℕ) : Type 0 where
   pub each : IsTrue (list_all (holds_text bytes) (spans 0 ends))
   pub whole : last_end 0 ends ≡ length bytes

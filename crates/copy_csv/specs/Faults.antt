@@ -1,10 +1,10 @@
--- Why a text was not read, in words.
+-- The messages that say why a text wasn't read.
 use Rattle.std.specs.Prelude.{codes}
 use Rattle.lei_code.specs.Texts.{Text}
 use Rattle.copy_csv.specs.declared.faults.FormFault.{FormFault}
 use Rattle.copy_csv.specs.declared.faults.FormFault.TheVariants as faults
 
--- The words for a text that was not read.
+-- The message for each reason.
 abbrev pub fault_words : FormFault → Text
 fault_words faults.NotRead = codes "the text is of another form"
 fault_words faults.NoMemory = codes "out of memory"

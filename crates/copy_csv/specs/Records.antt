@@ -6,11 +6,11 @@ use Rattle.csv.specs.declared.writer.QuoteStyle.TheVariants as style
 use Rattle.csv.specs.declared.writer.WriterBuilder.{WriterBuilder}
 use Rattle.lei_code.specs.Texts.{Text}
 
--- The crate's defaults with every field in quotes, for lines of any number of fields: commas between fields, LF at the
--- end of a line, and a quote in a field doubled (RFC 4180, whose lines end in CR LF).
+-- The crate's defaults, but with every field in quotes, and for lines of any number of fields. Commas are between
+-- fields, LF ends a line, and a quote in a field is doubled (RFC 4180, whose lines end in CR LF).
 abbrev pub all_quoted : WriterBuilder
 all_quoted = with_flexible (with_style default_writer style.Always) true
 
--- The records that a reader finds in a text by the crate's default configuration. The line of names is the first.
+-- The records that a reader with the crate's default configuration finds in a text. The line of names is the first.
 abbrev pub records_read : Text → List (List Text)
 records_read text = records default_config (strip_bom text)

@@ -9,7 +9,7 @@ use Rattle.copy_csv.specs.declared.heads.Head.{Head}
 use Rattle.copy_csv.specs.declared.rows.Change.{Change}
 use Rattle.copy_csv.specs.Sheets.{IsRow, SheetRow, fits, is_key_alone, key}
 
--- The keys rise strictly in byte order, text by text, so none stands twice.
+-- The keys rise strictly in byte order, text by text, so that none occurs twice.
 abbrev pub AreRising : List KeyTexts → Type 0
 AreRising keys = IsStrictlySortedBy key_cmp keys
 
@@ -24,25 +24,25 @@ changed_row (Change.Drop row) = row
 abbrev pub changed_key : Change → KeyTexts
 changed_key change = key (changed_row change)
 
--- A key that is dropped stands with its texts alone: all others of its row are empty.
+-- In the row of a key that is dropped, all texts after the key are empty.
 abbrev pub IsDropOfKey : Change → Type 0
 IsDropOfKey (Change.Put row) = ⊤
 IsDropOfKey (Change.Drop row) = IsTrue (is_key_alone row)
 
 -- ---- heads
 
--- The number of a publication.
+-- A number that a publication can have.
 abbrev pub IsNumber : ℕ → Type 0
 IsNumber number = (1 ≤ number) × (number ≤ 1_000_000)
 
--- The head of a copy: a moment, the publication's number, and no publication that it goes from.
+-- The head of a copy: a moment, the publication's number, and no publication that it starts from.
 pub record IsCopyHead (head : Head) : Type 0 where
   pub moment : IsMoment head.moment
   pub publication : IsNumber head.publication
   pub from : head.from ≡ 0
 
--- The head of a delta: a moment, the publication's number, and that of the publication that it goes from, which may be
--- the greater one.
+-- The head of a delta: a moment, the publication's number, and that of the publication that it starts from. The latter
+-- may be the greater one.
 pub record IsDeltaHead (head : Head) : Type 0 where
   pub moment : IsMoment head.moment
   pub publication : IsNumber head.publication
@@ -54,24 +54,24 @@ pub record IsDeltaHead (head : Head) : Type 0 where
 abbrev pub IsRowOf : Sheet → SheetRow → Type 0
 IsRowOf sheet row = IsRow row × (row.sheet ≡ sheet)
 
--- A row of this sheet that a file of this width shows whole.
+-- A row of this sheet of which a file of this width leaves nothing out.
 abbrev pub IsRowIn : Sheet → Bool → SheetRow → Type 0
 IsRowIn sheet wide row = IsRowOf sheet row × IsTrue (fits wide row)
 
--- The rows of a copy of a sheet: rows of this sheet, whose keys rise.
+-- The rows of a copy of a sheet: rows of this sheet whose keys rise.
 pub record AreRows (sheet : Sheet) (rows : List SheetRow) : Type 0 where
   pub each : All (IsRowOf sheet) rows
   pub rising : AreRising (map key rows)
 
--- A change of a row of this sheet. Of a key that is dropped stands the key alone.
+-- A change of a row of this sheet. If the key is dropped, the row has only the key.
 abbrev pub IsChangeOf : Sheet → Change → Type 0
 IsChangeOf sheet change = IsRowOf sheet (changed_row change) × IsDropOfKey change
 
--- A change of a row of this sheet that a file of this width shows whole.
+-- A change of a row of this sheet of which a file of this width leaves nothing out.
 abbrev pub IsChangeIn : Sheet → Bool → Change → Type 0
 IsChangeIn sheet wide change = IsChangeOf sheet change × IsTrue (fits wide (changed_row change))
 
--- The changes of a delta of a sheet: changes of rows of this sheet, whose keys rise.
+-- The changes of a delta of a sheet: changes of rows of this sheet whose keys rise.
 pub record AreChanges (sheet : Sheet) (changes : List Change) : Type 0 where
   pub each : All (IsChangeOf sheet) changes
   pub rising : AreRising (map changed_key changes)

@@ -1,4 +1,4 @@
-//! Copies and deltas in CSV, whole.
+//! Whole copies and deltas in CSV: printing and reading.
 ghost use Rattle.std.specs.Prelude.{◌≡◌, ◌++◌, Bool, List as Items, None, flat_map, IfOk, OnOk, IsErrOf, IsTrue, ◌↔◌};
 ghost use Rattle.std.specs.Str.{IsUtf8};
 ghost use Rattle.copy_csv.specs.declared.faults.FormFault.{FormFault};
@@ -36,8 +36,8 @@ fn delta_head(alloc: Global, sheet: Sheet, wide: bool) -> Result<Vec<u8>, NoMemo
     Ok(head)
 }
 
-/// The lines after the first line of a copy, and whether this is that of a wide one. None says that the bytes have no
-/// such first line, or aren't UTF-8 after it.
+/// The lines after the first line of a copy, and whether that is the first line of a wide copy. `None` says that the
+/// bytes don't start with a first line, or that they aren't UTF-8 after it.
 pub fn copy_lines<'a>(
     alloc: Global,
     bytes: &'a [u8],
@@ -50,7 +50,7 @@ pub fn copy_lines<'a>(
     Ok(lines_behind(bytes, &narrow, &wide))
 }
 
-// The same of a delta.
+// The same for a delta.
 fn delta_lines<'a>(
     alloc: Global,
     bytes: &'a [u8],
@@ -63,7 +63,7 @@ fn delta_lines<'a>(
     Ok(lines_behind(bytes, &narrow, &wide))
 }
 
-/// A copy that was read. It has no head.
+/// Reads a copy. The result has no head.
 pub fn read_csv_copy(alloc: Global, bytes: &[u8], sheet: Sheet) -> Result<CopyRead, FormFault>
     ensures head { IfOk result (λ read. read.head ≡ None) }
     ensures found { IfOk result (λ read. IsCsvCopy sheet bytes.now read.wide read.rows) }
@@ -83,7 +83,7 @@ pub fn read_csv_copy(alloc: Global, bytes: &[u8], sheet: Sheet) -> Result<CopyRe
     }
 }
 
-/// A delta that was read. It has no head.
+/// Reads a delta. The result has no head.
 pub fn read_csv_delta(alloc: Global, bytes: &[u8], sheet: Sheet) -> Result<DeltaRead, FormFault>
     ensures head { IfOk result (λ read. read.head ≡ None) }
     ensures found { IfOk result (λ read. IsCsvDelta sheet bytes.now read.wide read.changes) }
@@ -121,8 +121,8 @@ pub fn csv_copy_text(
     Ok(Bytes::from(out))
 }
 
-// The length of all lines of the rows. A copy of 100,000 rows has some 30 MB, and growing to them would take memory
-// anew at each doubling.
+// The length of all lines of the rows. A copy of 100,000 rows has some 30 MB. Growing the buffer up to that size would
+// allocate again at each doubling.
 fn lines_room(wide: bool, rows: &[RowTexts]) -> usize {
     let mut room = 0_usize;
     for texts in rows {
@@ -153,7 +153,7 @@ pub fn csv_delta_text(
     Ok(Bytes::from(out))
 }
 
-// Puts the line of a change after the others.
+// Appends the line of a change.
 fn put_change(out: &mut Vec<u8>, wide: bool, change: &TextChange<'_>) -> Result<(), NoMemory>
     ensures { OnOk result (out.new.items ≡ out.old.items ++ text_change_line wide change.now) }
 {
@@ -170,8 +170,8 @@ fn put_change(out: &mut Vec<u8>, wide: bool, change: &TextChange<'_>) -> Result<
     Ok(())
 }
 
-// The bytes after the one of these two first lines that they begin with, and whether it is the second, where they are
-// UTF-8 after it.
+// The bytes after the first line, if they are UTF-8, and whether that first line is `wide`. The bytes must start with
+// one of the two.
 fn lines_behind<'a>(bytes: &'a [u8], narrow: &[u8], wide: &[u8]) -> Option<(bool, &'a [u8])>
     ensures { FindsBehind narrow.now wide.now bytes.now (read_lines result) }
 {

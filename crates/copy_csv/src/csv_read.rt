@@ -1,4 +1,4 @@
-//! Lines of CSV, read.
+//! Reading lines of CSV.
 ghost use Rattle.std.specs.Prelude.{◌≡◌, ◌<◌, ◌==◌, ◌++◌, ◌∷◌, length, IfOk, IfSome, IfNone, IsTrue, is_some, unwrap_or, false, IsSome};
 ghost use Rattle.std.specs.Str.{IsUtf8};
 ghost use Rattle.copy_csv.specs.CsvReading.{behind, field_from, line_from, separator_of, text_from, with_front};
@@ -11,7 +11,7 @@ use memchr::memchr;
 use std::alloc::Global;
 use std::marker::Model;
 
-/// What is left to read of some bytes. Contracts see these as a list.
+/// What is left to read of some bytes. Contracts see it as a list of bytes.
 #[derive(Drop)]
 pub struct Reader<'a> {
     bytes: &'a [u8],
@@ -29,28 +29,28 @@ impl<'a> Model for Reader<'a> {
 }
 
 impl<'a> Reader<'a> {
-    /// All of the bytes.
+    /// A reader with all of the bytes left to read.
     pub fn new(bytes: &'a [u8]) -> Self
         ensures { result ≡ bytes.now }
     {
         Reader { bytes, at: 0 }
     }
 
-    /// Whether none is left.
+    /// Whether no byte is left to read.
     pub fn is_done(&self) -> bool
         ensures { result ≡ (length self.now == 0) }
     {
         self.at == self.bytes.len()
     }
 
-    /// What is left.
+    /// The bytes that are left to read.
     pub fn rest(&self) -> &[u8]
         ensures { result.now ≡ self.now }
     {
         &self.bytes[self.at..]
     }
 
-    /// Whether these bytes stand next, and steps over them.
+    /// Whether these bytes come next. If they do, it skips them.
     pub fn skip_all(&mut self, bytes: &[u8]) -> bool
         ensures { SkipsAll bytes.now self.old result self.new }
     {
@@ -65,7 +65,7 @@ impl<'a> Reader<'a> {
         true
     }
 
-    // Whether this byte stands next, and steps over it.
+    // Whether this byte comes next. If it does, it skips the byte.
     fn skip(&mut self, byte: u8) -> bool
         ensures found { result ≡ is_some (behind byte self.old) }
         ensures rest { self.new ≡ unwrap_or (behind byte self.old) self.old }
@@ -77,7 +77,7 @@ impl<'a> Reader<'a> {
         found
     }
 
-    // Puts the bytes before the next quote after the others, and steps over the quote. False says that none is left.
+    // Appends the bytes before the next quote to `out`, and skips the quote. False says that no quote is left.
     fn part(&mut self, out: &mut Vec<u8>) -> Result<bool, NoMemory>
         ensures { IfOk result (λ found. TakesPart self.old out.old.items found self.new out.new.items) }
     {
@@ -90,7 +90,8 @@ impl<'a> Reader<'a> {
         Ok(true)
     }
 
-    // The text before its closing quote, with quotes that stand twice as one.
+    // Appends the text before its closing quote to `out`, with each doubled quote as one. False says that no quote
+    // closes it.
     fn text(&mut self, out: &mut Vec<u8>) -> Result<bool, NoMemory>
         ensures { IfOk result (λ found. taken_text found out.new.items self.new
             ≡ with_front out.old.items (text_from self.old false)) }
@@ -104,7 +105,7 @@ impl<'a> Reader<'a> {
         Ok(false)
     }
 
-    // The text of a field that this byte follows.
+    // Appends the text of a field to `out`, if this byte follows the field. False says that no such field comes next.
     fn field(&mut self, byte: u8, out: &mut Vec<u8>) -> Result<bool, NoMemory>
         ensures { IfOk result (λ found. taken_text found out.new.items self.new
             ≡ with_front out.old.items (field_from byte self.old)) }
@@ -115,8 +116,8 @@ impl<'a> Reader<'a> {
         Ok(self.skip(byte))
     }
 
-    // About how many bytes the texts of the next line take: of those up to LF, each field has two quotes and what
-    // follows.
+    // About how many bytes the texts of the next line take: the bytes up to LF, less two quotes and a separator for
+    // each field.
     fn line_room(&self, count: usize) -> usize {
         match memchr(b'\n', self.rest()) {
             Some(len) => (len + 1).saturating_sub(count.saturating_mul(3)),
@@ -124,7 +125,7 @@ impl<'a> Reader<'a> {
         }
     }
 
-    /// The texts of a line of so many fields.
+    /// The texts of the next line, if it has `count` fields.
     pub fn line(&mut self, alloc: Global, count: usize) -> Result<Option<Texts>, NoMemory>
         requires { IsUtf8 self.old }
         ensures read { IfOk result (λ texts. taken texts self.new ≡ line_from count self.old) }
@@ -143,7 +144,7 @@ impl<'a> Reader<'a> {
     }
 }
 
-// What follows a field if so many fields follow it in the line.
+// The byte after a field that this many fields follow in the line.
 fn separator(more: usize) -> u8
     ensures { result ≡ separator_of more }
 {

@@ -1,4 +1,4 @@
-//! Rows and changes of CSV, read line by line.
+//! Reading rows and changes from CSV, line by line.
 ghost use Rattle.std.specs.Prelude.{◌≡◌, ◌≤◌, ◌-◌, ◌++◌, [], List as Items, IfOk, IsSome, IsTrue, IsErrOf, length, map, replicate, ◌↔◌};
 ghost use Rattle.std.specs.Str.{IsUtf8};
 ghost use Rattle.std.specs.List.{All};
@@ -18,7 +18,7 @@ use lei_outside::{List, NoMemory};
 use register_words::Sheet;
 use std::alloc::Global;
 
-/// The row of the next line of a file of this width: what the file lacks of it is empty.
+/// The row of the next line of a file of this width. Its texts for columns that the file lacks are empty.
 pub fn read_row(
     alloc: Global,
     sheet: Sheet,
@@ -39,7 +39,7 @@ pub fn read_row(
     }
 }
 
-// These texts, and after them an empty one for each that they are fewer than so many.
+// These texts, followed by empty ones up to `count` texts in all.
 fn filled(mut texts: Texts, count: usize) -> Result<Texts, NoMemory>
     requires { length texts ≤ count }
     ensures { IfOk result (λ all. all ≡ texts ++ replicate (count - length texts) []) }
@@ -50,7 +50,7 @@ fn filled(mut texts: Texts, count: usize) -> Result<Texts, NoMemory>
     Ok(texts)
 }
 
-// The change whose row stands after `PUT`.
+// The change whose row follows `PUT`.
 fn read_put(
     alloc: Global,
     sheet: Sheet,
@@ -69,7 +69,7 @@ fn read_put(
     }
 }
 
-// The change whose row stands after `DROP`.
+// The change whose row follows `DROP`.
 fn read_drop(
     alloc: Global,
     sheet: Sheet,
@@ -115,7 +115,7 @@ fn read_change(
     Ok(None)
 }
 
-// Whether a row stands after the last of the others by its key, or there are none.
+// Whether a row comes after the last of the others by its key, or there are no others.
 fn is_row_behind(rows: &[Row], row: &Row) -> bool
     requires sheet { All (λ other. other.sheet ≡ row.now.sheet) rows.now }
     ensures { result ≡ is_behind key rows.now row.now }
@@ -126,7 +126,7 @@ fn is_row_behind(rows: &[Row], row: &Row) -> bool
     }
 }
 
-/// Whether the keys of these rows of a sheet rise.
+/// Whether the keys of these rows of a sheet rise strictly.
 pub fn are_rows_rising(sheet: Sheet, rows: &[Row]) -> bool
     requires { All (IsRowOf sheet) rows.now }
     ensures { IsTrue result ↔ AreRising (map key rows.now) }
@@ -139,7 +139,7 @@ pub fn are_rows_rising(sheet: Sheet, rows: &[Row]) -> bool
     true
 }
 
-/// Whether the keys of these changes of a sheet rise.
+/// Whether the keys of these changes of a sheet rise strictly.
 pub fn are_changes_rising(sheet: Sheet, changes: &[Change]) -> bool
     requires { All (IsChangeOf sheet) changes.now }
     ensures { IsTrue result ↔ AreRising (map changed_key changes.now) }
@@ -152,7 +152,7 @@ pub fn are_changes_rising(sheet: Sheet, changes: &[Change]) -> bool
     true
 }
 
-/// The rows whose lines in a file of this width these are. The bytes are UTF-8.
+/// The rows whose lines in a file of this width the bytes are. The bytes must be UTF-8.
 pub fn read_rows(
     alloc: Global,
     sheet: Sheet,
@@ -179,7 +179,7 @@ pub fn read_rows(
     Ok(List::from(rows))
 }
 
-// Whether a change stands after the last of the others by its key, or there are none.
+// Whether a change comes after the last of the others by its key, or there are no others.
 fn is_change_behind(changes: &[Change], change: &Change) -> bool
     requires sheet { All (λ other. (changed_row other).sheet ≡ (changed_row change.now).sheet) changes.now }
     ensures { result ≡ is_behind changed_key changes.now change.now }
@@ -190,7 +190,7 @@ fn is_change_behind(changes: &[Change], change: &Change) -> bool
     }
 }
 
-/// The changes whose lines in a file of this width these are. The bytes are UTF-8.
+/// The changes whose lines in a file of this width the bytes are. The bytes must be UTF-8.
 pub fn read_changes(
     alloc: Global,
     sheet: Sheet,

@@ -1,4 +1,4 @@
-//! Lines of CSV, printed by the crate `csv`.
+//! Printing lines of CSV with the crate `csv`.
 ghost use Rattle.std.specs.Prelude.{◌≡◌, ◌<◌, ◌++◌, flat_map, length, take, IfOk, OnOk};
 ghost use Rattle.copy_csv.specs.Csv.{after_comma, fields_text, joined_line, line, row_line, row_start, row_tail};
 ghost use Rattle.copy_csv.specs.Records.{all_quoted};
@@ -13,10 +13,10 @@ use register_words::Sheet;
 use std::alloc::Global;
 use std::mem;
 
-// The most texts that a row of any sheet has.
+// The largest number of texts in a row of any sheet.
 const MOST: usize = 32;
 
-// Every field in quotes, and lines of any number of fields.
+// The writer's configuration: every field in quotes, and lines of any number of fields.
 fn quoting() -> WriterBuilder
     ensures { result ≡ all_quoted }
 {
@@ -25,7 +25,7 @@ fn quoting() -> WriterBuilder
         .flexible(true)
 }
 
-// Puts the line of these fields after the others, as `csv` writes it.
+// Appends the line of these fields, as `csv` writes it.
 fn put_line(out: &mut Vec<u8>, fields: &[&[u8]]) -> Result<(), NoMemory>
     requires { 0 < length fields.now }
     ensures { OnOk result (out.new.items ≡ out.old.items ++ line (read_texts fields.now)) }
@@ -41,8 +41,8 @@ fn put_line(out: &mut Vec<u8>, fields: &[&[u8]]) -> Result<(), NoMemory>
     Ok(())
 }
 
-// Puts a line and another one after the others, as `csv` writes them, and returns where the other one begins. It is one
-// writer for both, since a writer with its buffer costs more than what it writes here.
+// Appends two lines, as `csv` writes them, and returns the offset at which the second one starts. One writer writes
+// both, because a writer with its buffer costs more than what it writes here.
 fn put_two_lines(out: &mut Vec<u8>, fields: &[&[u8]], others: &[&[u8]]) -> Result<usize, NoMemory>
     requires some { 0 < length fields.now }
     requires more { 0 < length others.now }
@@ -68,7 +68,7 @@ fn put_two_lines(out: &mut Vec<u8>, fields: &[&[u8]], others: &[&[u8]]) -> Resul
     Ok(start)
 }
 
-// The texts of a row, in order of place. What stands after them is none of its texts.
+// The texts of a row, in order of place. The entries of the array after them aren't texts of the row.
 fn texts_of(row: &Row) -> [&[u8]; MOST]
     ensures { read_texts (take (length row.now.texts) result) ≡ row.now.texts }
 {
@@ -90,7 +90,7 @@ fn open_line(alloc: Global, room: usize, fields: &[&[u8]]) -> Result<Bytes, NoMe
     Ok(Bytes::from(line))
 }
 
-// The line of these fields, and what the line has further if others follow them, both without LF.
+// The line of `fields`, and what the line has in addition if `others` follow them; both without LF.
 fn two_texts(
     alloc: Global,
     room: usize,
@@ -111,7 +111,7 @@ fn two_texts(
     Ok((Bytes::from(line), Bytes::from(further)))
 }
 
-/// The start of a row's line and what a wide file shows further of it, both without LF.
+/// A row's line in a narrow file, and what a wide file adds to it; both without LF.
 pub fn line_texts(alloc: Global, row: &Row) -> Result<(Bytes, Bytes), NoMemory>
     ensures start { IfOk result (λ texts. texts.0 ≡ row_start row.now) }
     ensures tail { IfOk result (λ texts. texts.1 ≡ row_tail row.now) }
@@ -130,12 +130,12 @@ pub fn line_texts(alloc: Global, row: &Row) -> Result<(Bytes, Bytes), NoMemory>
     Ok((start, Bytes::from(Vec::new(alloc))))
 }
 
-// About how many bytes its line takes: its texts, and for each two quotes and what follows.
+// About how many bytes the row's line takes: its texts, and for each of them two quotes and a separator.
 fn line_room(row: &Row) -> usize {
     row.joined().len().saturating_add(3 * width(row.sheet()))
 }
 
-/// Puts the line of a row in a file of this width after the others.
+/// Appends the line of a row in a file of this width.
 pub fn put_row(out: &mut Vec<u8>, wide: bool, row: &Row) -> Result<(), NoMemory>
     ensures { OnOk result (out.new.items ≡ out.old.items ++ row_line wide row.now) }
 {
@@ -143,7 +143,7 @@ pub fn put_row(out: &mut Vec<u8>, wide: bool, row: &Row) -> Result<(), NoMemory>
     put_line(out, &texts[..columns(wide, row.sheet())])
 }
 
-/// Puts the line of a row that is rendered after the others.
+/// Appends the line of a row that was rendered.
 pub fn put_joined(out: &mut Vec<u8>, wide: bool, texts: &RowTexts) -> Result<(), NoMemory>
     ensures { OnOk result (out.new.items ≡ out.old.items ++ joined_line wide texts.now) }
 {
@@ -155,7 +155,7 @@ pub fn put_joined(out: &mut Vec<u8>, wide: bool, texts: &RowTexts) -> Result<(),
     Ok(())
 }
 
-// The names of a sheet's fields, in order of place. What stands after them is none of its names.
+// The names of a sheet's fields, in order of place. The entries of the array after them aren't names.
 fn names_of(sheet: Sheet) -> [&'static [u8]; MOST]
     ensures { read_texts (take (spec_width sheet) result) ≡ names sheet }
 {
@@ -166,7 +166,7 @@ fn names_of(sheet: Sheet) -> [&'static [u8]; MOST]
     names
 }
 
-/// Puts the line of the names that a file of this width shows after the others.
+/// Appends the line of the names in a file of this width.
 pub fn put_names(out: &mut Vec<u8>, wide: bool, sheet: Sheet) -> Result<(), NoMemory>
     ensures { OnOk result (out.new.items ≡ out.old.items ++ line (names_shown wide sheet)) }
 {

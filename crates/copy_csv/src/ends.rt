@@ -1,4 +1,4 @@
-//! Where texts end that lie one after the other.
+//! The end offsets of texts that follow each other directly.
 ghost use Rattle.std.specs.Prelude.{◌≡◌, ◌==◌, ◌<◌, ◌++◌, ◌∷◌, [], length, get_or, IfOk, OnOk, OnErr};
 ghost use Rattle.copy_csv.specs.Cuts.{IsSpan};
 
@@ -6,8 +6,8 @@ use lei_outside::NoMemory;
 use std::alloc::Global;
 use std::marker::Model;
 
-/// Where texts end that lie one after the other, from 0 on. An end takes 16 bits where it and all before it fit in
-/// these, as those of most rows do. Contracts see the list of the ends.
+/// The end offsets of texts that follow each other directly; the first text starts at 0. An end takes 16 bits if it and
+/// all ends before it fit in 16 bits, as those of most rows do. Contracts see the list of the ends.
 #[derive(Debug, Drop)]
 pub struct Ends {
     near: Vec<u16>,
@@ -23,7 +23,7 @@ impl Model for Ends {
 }
 
 impl Ends {
-    /// No ends.
+    /// An empty list of ends.
     pub fn new(alloc: Global) -> Self
         ensures { result ≡ [] }
     {
@@ -33,7 +33,7 @@ impl Ends {
         }
     }
 
-    /// No ends, with room for so many that fit in 16 bits.
+    /// An empty list with capacity for `count` ends that fit in 16 bits.
     pub fn with_capacity(alloc: Global, count: usize) -> Result<Self, NoMemory>
         ensures { IfOk result (λ ends. ends ≡ []) }
     {
@@ -43,7 +43,7 @@ impl Ends {
         })
     }
 
-    /// Puts an end after the others.
+    /// Appends an end.
     pub fn push(&mut self, end: usize) -> Result<(), NoMemory>
         ensures pushed { OnOk result (self.new ≡ self.old ++ end ∷ []) }
         ensures kept { OnErr result (self.new ≡ self.old) }
@@ -56,14 +56,14 @@ impl Ends {
         Ok(())
     }
 
-    /// How many they are.
+    /// The number of ends.
     pub fn len(&self) -> usize
         ensures { result ≡ length self.now }
     {
         self.near.len() + self.far.len()
     }
 
-    /// Whether there is none.
+    /// Whether there are no ends.
     pub fn is_empty(&self) -> bool
         ensures { result ≡ (length self.now == 0) }
     {
@@ -82,7 +82,7 @@ impl Ends {
         }
     }
 
-    /// Where the text at an index begins, and where it ends.
+    /// The start and the end of the text at an index, counted from 0.
     pub fn span(&self, index: usize) -> (usize, usize)
         requires { index < length self.now }
         ensures { IsSpan self.now index result.0 result.1 }

@@ -1,4 +1,4 @@
-// Why a text was not read.
+//! The reasons why a text wasn't read, with a message for each.
 ghost use Rattle.std.specs.Prelude.{◌≡◌};
 
 use lei_outside::NoMemory;
@@ -6,12 +6,12 @@ use std::alloc::{AllocError, AllocFailed};
 use std::error::Error;
 use std::fmt;
 
-/// Why a text was not read.
+/// Why a text wasn't read.
 #[derive(Clone, Copy, Debug, PartialEq, Eq)]
 pub enum FormFault {
-    /// It is no text of this form and this sheet.
+    /// It isn't a text of this form and this sheet.
     NotRead,
-    /// Memory ran out.
+    /// Out of memory.
     NoMemory,
 }
 

@@ -1,4 +1,4 @@
-//! What readers of CSV find in copies and deltas.
+//! What readers of the crate `csv` find in copies and deltas.
 ghost use Rattle.std.specs.Prelude.{◌≡◌, ◌<◌, ◌∷◌, [], Bool, List as Items, length, map};
 ghost use Rattle.std.specs.List.{All};
 ghost use Rattle.lei_code.specs.Texts.{Text};
@@ -9,8 +9,8 @@ ghost use Rattle.copy_csv.specs.Records.{records_read};
 ghost use Rattle.copy_csv.specs.Rows.{IsRowOf};
 ghost use Rattle.copy_csv.specs.Sheets.{SheetRow, names_shown, shown};
 
-/// A reader of the crate `csv` with its default configuration finds in a line its fields; in a copy the names, and for
-/// each row the texts that the copy shows of it; in a delta the names, and for each change its fields.
+/// What a reader of the crate `csv` with its default configuration finds. In a line, its fields. In a copy, the names,
+/// and for each row the texts that the copy has of it. In a delta, the names, and for each change its fields.
 pub fn csv_readers_see_each_row()
     ensures lines { (fields : Items Text) → 0 < length fields → records_read (line fields) ≡ fields ∷ [] }
     ensures copies { (sheet : Sheet) (wide : Bool) (rows : Items SheetRow) → All (IsRowOf sheet) rows

@@ -1,4 +1,4 @@
-//! The rows of golden copies and of deltas, and their texts in CSV, printed and read back.
+//! Rows of golden copies and changes of deltas, and their texts in CSV: printing and reading.
 #![tactic(auto)]
 
 mod csv_files;

@@ -1,4 +1,4 @@
-//! Rows of a golden copy, and of a delta.
+//! Rows of golden copies, and changes of deltas.
 ghost use Rattle.std.specs.Prelude.{◌≡◌, ◌≤◌, length};
 ghost use Rattle.lei_records.specs.Rows.{text_at};
 ghost use Rattle.std.specs.List.{concat};
@@ -11,8 +11,8 @@ use register_words::Sheet;
 use std::cmp::Ordering;
 use std::marker::Model;
 
-/// A row of a sheet: as many texts as the sheet has fields, in one piece of memory. Contracts see the sheet and the
-/// list of the texts.
+/// A row of a sheet: one text for each field, with the bytes of all in one buffer. Contracts see the sheet and the list
+/// of the texts.
 #[derive(Debug, Drop)]
 pub struct Row {
     sheet: Sheet,
@@ -30,7 +30,7 @@ impl Model for Row {
 }
 
 impl Row {
-    /// The row with these texts, which move. The condition is that they are as many as the sheet has fields.
+    /// The row with these texts, which it takes over. There must be one for each field of the sheet.
     pub fn of(sheet: Sheet, texts: Texts) -> Self
         requires { length texts ≡ spec.width sheet }
         ensures value { result ≡ spec.row_of sheet texts }
@@ -41,7 +41,7 @@ impl Row {
         Row { sheet, texts }
     }
 
-    /// The sheet that it is a row of.
+    /// The sheet that the row belongs to.
     pub fn sheet(&self) -> Sheet
         ensures value { result ≡ self.now.sheet }
         ensures row { spec.IsRow self.now }
@@ -49,7 +49,7 @@ impl Row {
         self.sheet
     }
 
-    /// Its text at a place, places counted from 1: the empty text where the field is absent.
+    /// The text at a place, counted from 1. It is empty if the field is absent.
     pub fn text(&self, place: usize) -> &str
         requires first { 1 ≤ place }
         requires last { place ≤ length self.now.texts }
@@ -59,7 +59,7 @@ impl Row {
         self.texts.text(place)
     }
 
-    /// The bytes of its text at a place.
+    /// The bytes of the text at a place, counted from 1.
     pub fn text_bytes(&self, place: usize) -> &[u8]
         requires first { 1 ≤ place }
         requires last { place ≤ length self.now.texts }
@@ -69,7 +69,7 @@ impl Row {
         self.texts.text_bytes(place)
     }
 
-    /// All of its texts, one after the other.
+    /// The bytes of all its texts, one text directly after the other.
     pub fn joined(&self) -> &[u8]
         ensures { result.now ≡ concat self.now.texts }
     {
@@ -81,7 +81,7 @@ impl Row {
     ghost use Rattle.std.specs.Ordering.{is_lt};
     ghost use Rattle.lei_records.specs.Tables.{key_cmp};
 
-    /// How its key compares to that of another row of the sheet, text by text.
+    /// How its key compares with that of another row of the sheet: text by text, in byte order.
     pub fn order(&self, other: &Row) -> Ordering
         requires { self.now.sheet ≡ other.now.sheet }
         ensures { result ≡ key_cmp (spec.key self.now) (spec.key other.now) }
@@ -99,7 +99,7 @@ impl Row {
         Ordering::Equal
     }
 
-    /// Whether its key stands before that of another row of the sheet.
+    /// Whether its key comes before that of another row of the sheet.
     pub fn precedes(&self, other: &Row) -> bool
         requires { self.now.sheet ≡ other.now.sheet }
         ensures { result ≡ is_lt (key_cmp (spec.key self.now) (spec.key other.now)) }
@@ -107,7 +107,7 @@ impl Row {
         matches!(self.order(other), Ordering::Less)
     }
 
-    /// Whether the texts after its key are empty.
+    /// Whether all texts after its key are empty.
     pub fn is_key_alone(&self) -> bool
         ensures { result ≡ spec.is_key_alone self.now }
     {
@@ -120,38 +120,38 @@ impl Row {
     }
 }
 
-/// The texts of one row: its line in CSV, without LF, and its record in JSON.
+/// The rendered texts of one row: its line in CSV, without LF, and its record in JSON.
 #[derive(Debug, Drop)]
 pub struct RowTexts {
-    /// The fields that a narrow file shows.
+    /// The fields that a narrow file has.
     pub csv: Bytes,
-    /// The further fields of a wide file, each with the comma before it. Only a row of `lei` has any.
+    /// The further fields of a wide file, each preceded by a comma. Only a row of `lei` has any.
     pub tail: Bytes,
     pub json: Bytes,
 }
 
-/// What a delta has of a key, with a row that is rendered elsewhere.
+/// What a delta says about a key. The texts of a row that is put were rendered elsewhere.
 #[derive(Debug, Drop)]
 pub enum TextChange<'a> {
-    /// The row that the key has now, as its texts.
+    /// The key has this row now, given by its texts.
     Put(&'a RowTexts),
-    /// The key has no row now. Of the row, the texts after the key are empty.
+    /// The key has no row now. In the row given here, all texts after the key are empty.
     Drop(Row),
 }
 
-/// What a delta has of a key.
+/// What a delta says about a key.
 #[derive(Debug, Drop)]
 pub enum Change {
-    /// The row that the key has now.
+    /// The key has this row now.
     Put(Row),
-    /// The key has no row now. Of the row, the texts after the key are empty.
+    /// The key has no row now. In the row given here, all texts after the key are empty.
     Drop(Row),
 }
 
 impl Change {
     ghost use Rattle.copy_csv.specs.Rows.{changed_row};
 
-    /// The row of its key.
+    /// The row of the change, whether it is put or dropped.
     pub fn row(&self) -> &Row
         ensures { result.now ≡ changed_row self.now }
     {

@@ -1,4 +1,4 @@
-//! What a sheet of a golden copy knows of fields.
+//! The fields of each sheet of a golden copy: their number, columns, key and names.
 ghost use Rattle.std.specs.Prelude.{◌≡◌, ◌≤◌};
 ghost use Rattle.lei_records.specs.Rows.{text_at};
 ghost use Rattle.copy_csv.specs.Sheets as spec;
@@ -6,7 +6,7 @@ ghost use Rattle.copy_csv.specs.Sheets as spec;
 use lei_records::Kind;
 use register_words::Sheet;
 
-/// The kind of items whose rows stand in a sheet.
+/// The kind of the items whose rows are in a sheet.
 pub fn kind_of(sheet: Sheet) -> Kind
     ensures { result ≡ spec.kind_of sheet }
 {
@@ -17,7 +17,7 @@ pub fn kind_of(sheet: Sheet) -> Kind
     }
 }
 
-/// How many texts a row has.
+/// The number of texts in a row of a sheet.
 pub fn width(sheet: Sheet) -> usize
     ensures { result ≡ spec.width sheet }
 {
@@ -28,7 +28,7 @@ pub fn width(sheet: Sheet) -> usize
     }
 }
 
-/// How many columns a file in CSV has: in a narrow one of `lei`, none for the fields of an event.
+/// The number of columns in a CSV file of a sheet. A narrow file of `lei` has none for the fields of an event.
 pub fn columns(wide: bool, sheet: Sheet) -> usize
     ensures { result ≡ spec.columns wide sheet }
 {
@@ -39,7 +39,7 @@ pub fn columns(wide: bool, sheet: Sheet) -> usize
     }
 }
 
-/// How many texts of a row, from the first, are its key.
+/// How many texts of a row, counted from the first, are its key.
 pub fn key_len(sheet: Sheet) -> usize
     ensures { result ≡ spec.key_len sheet }
 {
@@ -50,7 +50,7 @@ pub fn key_len(sheet: Sheet) -> usize
     }
 }
 
-/// The name of the field at a place, places counted from 1.
+/// The name of the field at a place, counted from 1.
 pub fn name_at(sheet: Sheet, place: usize) -> &'static str
     requires first { 1 ≤ place }
     requires last { place ≤ spec.width sheet }

@@ -1,4 +1,4 @@
-//! Several texts in one piece of memory.
+//! Several texts in one buffer.
 ghost use Rattle.std.specs.Prelude.{◌≡◌, ◌==◌, ◌≤◌, ◌++◌, ◌∷◌, [], length, IfOk, IsTrue, OnOk, OnErr};
 ghost use Rattle.std.specs.List.{concat, list_all};
 ghost use Rattle.std.specs.Str.{IsUtf8, is_utf8};
@@ -11,8 +11,8 @@ use std::alloc::Global;
 use std::marker::Model;
 use std::str;
 
-/// Texts that lie in one piece of memory, one after the other. Contracts see the list of them, each by its UTF-8
-/// bytes.
+/// Texts whose bytes are in one buffer, one text directly after the other. Contracts see the list of them, each by its
+/// UTF-8 bytes.
 #[derive(Debug, Drop)]
 pub struct Texts {
     bytes: Vec<u8>,
@@ -31,7 +31,7 @@ impl Model for Texts {
 }
 
 impl Texts {
-    /// No texts.
+    /// An empty list of texts.
     pub fn new(alloc: Global) -> Self
         ensures { result ≡ [] }
     {
@@ -41,7 +41,7 @@ impl Texts {
         }
     }
 
-    /// No texts, with room for so many of so many bytes in all.
+    /// An empty list with capacity for `count` texts that have `bytes` bytes in total.
     pub fn with_capacity(alloc: Global, count: usize, bytes: usize) -> Result<Self, NoMemory>
         ensures { IfOk result (λ texts. texts ≡ []) }
     {
@@ -51,8 +51,8 @@ impl Texts {
         })
     }
 
-    /// The texts in the parts of these bytes, which move. The condition is that each part is UTF-8 and that they are
-    /// all of the bytes.
+    /// The texts that these bytes have between these ends; it takes both over. Each part must be UTF-8, and together
+    /// they must cover all of the bytes.
     pub fn of(bytes: Vec<u8>, ends: Ends) -> Self
         requires { IsCut bytes.items ends }
         ensures { result ≡ cut bytes.items ends }
@@ -60,7 +60,7 @@ impl Texts {
         Texts { bytes, ends }
     }
 
-    /// Puts a text after the others.
+    /// Appends a text.
     pub fn push(&mut self, text: &str) -> Result<(), NoMemory>
         ensures pushed { OnOk result (self.new ≡ self.old ++ text.now ∷ []) }
         ensures kept { OnErr result (self.new ≡ self.old) }
@@ -77,7 +77,7 @@ impl Texts {
         }
     }
 
-    /// How many they are.
+    /// The number of texts.
     pub fn len(&self) -> usize
         ensures value { result ≡ length self.now }
         ensures utf8 { IsTrue (list_all is_utf8 self.now) }
@@ -85,21 +85,21 @@ impl Texts {
         self.ends.len()
     }
 
-    /// Whether there is none.
+    /// Whether there are no texts.
     pub fn is_empty(&self) -> bool
         ensures { result ≡ (length self.now == 0) }
     {
         self.ends.is_empty()
     }
 
-    /// All of them, one after the other.
+    /// The bytes of all texts, one text directly after the other.
     pub fn joined(&self) -> &[u8]
         ensures { result.now ≡ concat self.now }
     {
         self.bytes.as_slice()
     }
 
-    /// The bytes of the text at a place, places counted from 1.
+    /// The bytes of the text at a place, counted from 1.
     pub fn text_bytes(&self, place: usize) -> &[u8]
         requires first { 1 ≤ place }
         requires last { place ≤ length self.now }
@@ -111,7 +111,7 @@ impl Texts {
         &self.bytes.as_slice()[start..end]
     }
 
-    /// The text at a place, places counted from 1.
+    /// The text at a place, counted from 1.
     pub fn text(&self, place: usize) -> &str
         requires first { 1 ≤ place }
         requires last { place ≤ length self.now }

@@ -1,4 +1,4 @@
--- A delta of a sound trail leads from each publication that it goes over to the one that it leads to.
+-- A delta of a sound trail leads from each publication that it covers to the one that it leads to.
 use Rattle.std.proofs.Common.{◌≡◌, ℕ, zero, suc, ◌+◌, ◌-◌, ◌<◌, ◌≤◌, Bool, true, false, ◌&&◌, None, Some, List, [], ◌∷◌, ◌++◌, length, take, drop, refl, sym, ap, subst, ◌∙◌, arith}
 use Rattle.std.specs.Prelude.{flat_map, unwrap_or}
 use Rattle.std.specs.List.{All, slice_get}
@@ -23,11 +23,11 @@ use Rattle.copy_forms.proofs.TrailLemmas.{are_changes, leads_over, ordered-fit}
 
 -- ---- what holds up to a place of a trail
 
--- a key that no list of keys has
+-- a key that is in neither of two lists
 unseen : (k : KeyTexts) (xs ys : List KeyTexts) → is_among k (xs ++ ys) ≡ false → (is_among k xs ≡ false) × (is_among k ys ≡ false)
 unseen k xs ys un = or_parts (is_among k xs) (is_among k ys) (sym (list_any-append (eq_by_cmp key_cmp k) xs ys) ∙ un)
 
--- a key that wasn't touched up to a publication has the row there that it had before
+-- a key that wasn't touched up to a publication has the same row there as before
 kept_to : (before : Publication) (later : List Publication) → FollowOn before later → (n : ℕ) (latest : Publication)
     → slice_get (before ∷ later) n ≡ Some latest → (sheet : Sheet) (k : KeyTexts) → is_among k (touched_in sheet (take n later)) ≡ false
     → row_under (latest.rows sheet) k ≡ row_under (before.rows sheet) k
@@ -46,7 +46,7 @@ keys_to before [] on (suc n) sheet = All-nil (IsKeyOf sheet)
 keys_to before (next ∷ later) on (suc n) sheet =
     All-append (IsKeyOf sheet) (next.touched sheet) (touched_in sheet (take n later)) (on.0.keys_are sheet) (keys_to next later on.1 n sheet)
 
--- and so they are from any place on
+-- and so are those touched after any place
 keys_part : (before : Publication) (later : List Publication) → FollowOn before later → (m n : ℕ) (sheet : Sheet)
     → All (IsKeyOf sheet) (touched_in sheet (take n (drop m later)))
 keys_part before later on zero n sheet = keys_to before later on n sheet
@@ -54,7 +54,7 @@ keys_part before [] on (suc m) zero sheet = All-nil (IsKeyOf sheet)
 keys_part before [] on (suc m) (suc n) sheet = All-nil (IsKeyOf sheet)
 keys_part before (next ∷ later) on (suc m) n sheet = keys_part next later on.1 m n sheet
 
--- after a wide one all are wide
+-- all publications after a wide one are wide
 widens_to : (before : Publication) (later : List Publication) → FollowOn before later → (n : ℕ) (latest : Publication)
     → slice_get (before ∷ later) n ≡ Some latest → before.wide ≡ true → latest.wide ≡ true
 widens_to before later on zero latest e wide = ap (λ (p : Publication). p.wide) (sym (ap (λ r. unwrap_or r before) e)) ∙ wide
@@ -66,7 +66,7 @@ record Follows (publication : Publication) : Type 0 where
   before : Publication
   is_next : IsNext before publication
 
--- each publication of a trail does
+-- each publication of a trail follows another one
 follows_at : (before : Publication) (trail : Trail) (n : ℕ) (publication : Publication) → FollowOn before trail
     → slice_get trail n ≡ Some publication → Follows publication
 follows_at before [] n publication on e = cc
@@ -74,7 +74,7 @@ follows_at before (next ∷ later) zero publication on e =
     subst Follows (ap (λ r. unwrap_or r next) e) (record { before = before; is_next = on.0 })
 follows_at before (next ∷ later) (suc n) publication on e = follows_at next later n publication on.1 e
 
--- after a publication of a trail the others follow on
+-- the publications after one of a trail follow on from it
 follow_on : (before : Publication) (trail : Trail) (n : ℕ) (base : Publication) → FollowOn before trail
     → slice_get trail n ≡ Some base → FollowOn base (drop (suc n) trail)
 follow_on before [] n base on e = cc
@@ -85,14 +85,14 @@ follow_on before (next ∷ later) (suc n) base on e = follow_on next later n bas
 
 -- ---- places of a trail
 
--- a publication with those after it
+-- a publication, followed by those after it
 from_here : (trail : Trail) (n : ℕ) (publication : Publication) → slice_get trail n ≡ Some publication
     → publication ∷ drop (suc n) trail ≡ drop n trail
 from_here [] n publication e = cc
 from_here (x ∷ trail) zero publication e = ap (λ (p : Publication). p ∷ trail) (sym (ap (λ r. unwrap_or r x) e))
 from_here (x ∷ trail) (suc n) publication e = from_here trail n publication e
 
--- a place after a place
+-- a place counted from another place
 at_behind : (trail : Trail) (n m : ℕ) → slice_get (drop n trail) m ≡ slice_get trail (n + m)
 at_behind [] n m = ap (λ (l : Trail). slice_get l m) (drop-none n) ∙ none m ∙ sym (none (n + m))
   where
@@ -111,7 +111,7 @@ at_behind (x ∷ trail) (suc n) m = at_behind trail n m ∙ ap (slice_get (x ∷
     next : suc (n + m) ≡ suc n + m
     next = omega arith
 
--- a key that wasn't touched between two publications wasn't between a later one and the second
+-- if a key wasn't touched between two publications, it wasn't touched between any later one and the second
 later_unseen : (trail : Trail) (p q r : ℕ) → p ≤ q → q ≤ r → (sheet : Sheet) (k : KeyTexts)
     → is_among k (touched_in sheet (between trail p r)) ≡ false → is_among k (touched_in sheet (between trail q r)) ≡ false
 later_unseen trail p q r first second sheet k un =
@@ -130,9 +130,9 @@ later_unseen trail p q r first second sheet k un =
     ap (λ (l : List Publication). is_among k (flat_map touched l)) (sym rest)
     ∙ (unseen k (flat_map touched (take a part)) (flat_map touched (drop a part)) none).1
 
--- ---- what each width shows
+-- ---- what files of each width have
 
--- rows of which a file of this width shows all columns
+-- rows for which a file of this width has all columns
 all-fit : (sheet : Sheet) (wide : Bool) → columns wide sheet ≡ width sheet → (rows : List SheetRow) → All (IsRowOf sheet) rows
     → All (FitsIn Form.Csv wide) rows
 all-fit sheet wide full [] are = All-nil (FitsIn Form.Csv wide)
@@ -140,7 +140,7 @@ all-fit sheet wide full (row ∷ rows) are =
     All-cons (FitsIn Form.Csv wide) row rows (fits-all sheet wide row (All-head (IsRowOf sheet) row rows are) full)
     (all-fit sheet wide full rows (All-tail (IsRowOf sheet) row rows are))
 
--- a file of a publication shows all that its rows have
+-- a file of a publication loses nothing of its rows
 rows-show : (publication : Publication) → Follows publication → (sheet : Sheet) (form : Form)
     → All (FitsIn form (is_wide_in publication sheet form)) (publication.rows sheet)
 rows-show publication is sheet Form.Json = always (publication.rows sheet)
@@ -172,7 +172,7 @@ module _ (trail : Trail) (on : IsSound trail) (few : length trail ≤ 1_000_000)
         fit = rows-show copied is sheet form;
       }
 
-  -- a delta between two
+  -- the delta between two publications
   pub delta_stands : (p r : ℕ) (latest : Publication) → 1 ≤ p → p ≤ r → publication_at trail r ≡ Some latest → (sheet : Sheet) (form : Form)
       → IsDelta (delta_between trail p r latest sheet form) sheet form (delta_head p r latest) (is_wide_in latest sheet form)
       (changes_between trail p r latest sheet)
@@ -251,7 +251,7 @@ pub deltas_lead_between : (trail : Trail) → IsSound trail → length trail ≤
 deltas_lead_between trail on few p q r copied latest from_one first second e_q e_r sheet form =
     let is = leads_with_heads trail on few p q r copied latest from_one first second e_q e_r sheet form in is.0
 
--- and its case of a delta that goes from the publication of the copy
+-- and the case of a delta that starts from the publication of the copy
 pub deltas_lead : (trail : Trail) → IsSound trail → length trail ≤ 1_000_000 → DeltasLeadOn trail
 deltas_lead trail on few p q base latest from_one ordered e_p e_q =
     deltas_lead_between trail on few p p q base latest from_one (omega arith) ordered e_p e_q

@@ -1,4 +1,4 @@
--- What is read of a copy or a delta.
+-- What is read from a copy or a delta.
 use Rattle.std.proofs.Common.{◌≡◌, ℕ, ◌<◌, ◌^◌, Bool, true, false, ◌&&◌, List, map, length, refl, sym, subst, ◌∙◌}
 use Rattle.std.specs.Prelude.{[], ◌∷◌, ◌++◌, None, Result, Ok, Err, IfOk, ⊤}
 use Rattle.std.specs.List.{All}
@@ -24,7 +24,7 @@ use Rattle.copy_forms.proofs.JsonCopies.{copies-differ}
 use Rattle.copy_forms.proofs.JsonDeltas.{deltas-differ}
 use Rattle.copy_forms.proofs.JsonJoined.{copy-joined, delta-joined}
 
--- where a file shows everything
+-- if a file loses nothing of any row, the condition on the rows always holds
 pub always : {X : Type 0} (xs : List X) → All (λ x. ⊤) xs
 always [] = All-nil (λ x. ⊤)
 always (x ∷ xs) = All-cons (λ x. ⊤) x xs tt (always xs)
@@ -49,7 +49,7 @@ copy-with sheet bytes head rows is rising = record {
   fit = always rows;
 }
 
--- where their keys don't rise, the bytes are no copy
+-- if the keys of the rows don't rise, the bytes aren't a copy
 pub copy-falls : (sheet : Sheet) (bytes : List ℕ) (head : Head) (rows : List SheetRow) → length bytes < 2 ^ 64
     → IsJsonCopy sheet bytes head rows → (AreRising (map key rows) → ⊥) → (other : Head) (wide : Bool)
     (others : List SheetRow) → IsCopy bytes sheet Form.Json other wide others → ⊥
@@ -75,7 +75,7 @@ delta-with sheet bytes head changes is rising = record {
   fit = always changes;
 }
 
--- where their keys don't rise, the bytes are no delta
+-- if the keys of the changes don't rise, the bytes aren't a delta
 pub delta-falls : (sheet : Sheet) (bytes : List ℕ) (head : Head) (changes : List Change) → length bytes < 2 ^ 64
     → IsJsonDelta sheet bytes head changes → (AreRising (map changed_key changes) → ⊥) → (other : Head) (wide : Bool)
     (others : List Change) → IsDelta bytes sheet Form.Json other wide others → ⊥
@@ -83,13 +83,13 @@ delta-falls sheet bytes head changes short read falls other wide others is =
     let same = deltas-differ sheet bytes head other changes others short read (delta-to sheet bytes other wide others is) in
     falls (subst (λ (l : List Change). AreRising (map changed_key l)) (sym same.1) is.changes_are.rising)
 
--- no two heads and rows have one text
+-- two copies with different heads or rows have different texts
 pub copy-same : (sheet : Sheet) (bytes : List ℕ) (head other : Head) (wide wider : Bool) (rows others : List SheetRow) → length bytes < 2 ^ 64
     → IsCopy bytes sheet Form.Json head wide rows → IsCopy bytes sheet Form.Json other wider others → (head ≡ other) × (rows ≡ others)
 copy-same sheet bytes head other wide wider rows others short is also =
     copies-differ sheet bytes head other rows others short (copy-to sheet bytes head wide rows is) (copy-to sheet bytes other wider others also)
 
--- no two heads and lists of changes have one text
+-- two deltas with different heads or changes have different texts
 pub delta-same : (sheet : Sheet) (bytes : List ℕ) (head other : Head) (wide wider : Bool) (changes others : List Change) → length bytes < 2 ^ 64
     → IsDelta bytes sheet Form.Json head wide changes → IsDelta bytes sheet Form.Json other wider others → (head ≡ other) × (changes ≡ others)
 delta-same sheet bytes head other wide wider changes others short is also =
@@ -115,7 +115,7 @@ pub csv-delta-with : (sheet : Sheet) (bytes : List ℕ) (wide : Bool) (changes :
 csv-delta-with sheet bytes wide changes is head head_is =
     record { text = is.text; head_is = head_is; wide_is = is.wide_is; changes_are = is.changes_are; fit = is.fit }
 
--- what is read of CSV
+-- what is read from CSV
 pub copy-read : {E : Type 0} (sheet : Sheet) (bytes : List ℕ) (r : Result CopyRead E) → IfOk r (λ read. read.head ≡ None)
     → IfOk r (λ read. IsCsvCopy sheet bytes read.wide read.rows) → IfOk r (λ read. IsCopyRead bytes sheet Form.Csv read)
 copy-read sheet bytes (Ok read) none is = (none, csv-copy-with sheet bytes read.wide read.rows is)
@@ -128,7 +128,7 @@ delta-read sheet bytes (Err e) none is = tt
 
 -- ---- widths
 
--- where a sheet and a form have one width, it is that of each text
+-- if a sheet has only one width in a form, each text has that width
 pub copy-width : (sheet : Sheet) (form : Form) (wide : Bool) (head : Head) (rows : List SheetRow) → All (IsRowOf sheet) rows
     → copy sheet form wide head rows ≡ copy sheet form (wide && may_be_wide sheet form) head rows
 copy-width sheet Form.Json wide head rows all = refl
@@ -145,7 +145,7 @@ delta-width Sheet.Lei Form.Csv false head changes all = refl
 delta-width Sheet.Rr Form.Csv wide head changes all = delta-one_width Sheet.Rr wide (wide && false) refl changes all
 delta-width Sheet.Repex Form.Csv wide head changes all = delta-one_width Sheet.Repex wide (wide && false) refl changes all
 
--- ---- joined
+-- ---- files that are joined from rendered rows and changes
 
 pub json-copy-ok : {E : Type 0} (head : Head) (texts : List RowTexts) (r : Result (List ℕ) E)
     → IfOk r (λ bytes. bytes ≡ before_copy head (length texts) (records_text false (map (λ (t : RowTexts). t.json) texts) ++ 125 ∷ []))

@@ -1,4 +1,4 @@
--- Lines that are joined of rendered rows and changes.
+-- Lines that are joined from rendered rows and changes.
 use Rattle.std.proofs.Common.{◌≡◌, Bool, ℕ, List, [], ◌∷◌, ◌++◌, map, refl, sym, ap, ◌∙◌}
 use Rattle.std.specs.Prelude.{flat_map, codes, Result, Ok, Err, IfOk}
 use Rattle.std.specs.List.{All}

@@ -1,4 +1,4 @@
--- A copy in JSON is read back from its text, and from this alone.
+-- A copy in JSON is read back from its text, and only from this.
 use Rattle.std.proofs.Common.{◌≡◌, ℕ, suc, ◌+◌, ◌<◌, ◌≤◌, ◌^◌, Bool, true, false, List, [], ◌∷◌, ◌++◌, Option, Some, None, option_map, option_and_then, unwrap_or, refl, sym, ap, ◌∙◌, subst, arith, length, map, codes}
 use Rattle.std.specs.Prelude.{decimal}
 use Rattle.std.specs.List.{All, zip}
@@ -44,7 +44,7 @@ row-reader sheet = record {
 
 -- ---- copies
 
--- what a chain of readings went through
+-- the value between two steps of a chain of readings
 pub record Through {X Y : Type 0} (step : X → Option Y) (found : Option X) (y : Y) : Type 0 where
   pub at : X
   pub is : found ≡ Some at
@@ -104,7 +104,7 @@ copy-taken sheet bytes head rows is =
       each = items.sound;
     })
 
--- ---- a file is no shorter than it has records
+-- ---- a file has at least as many bytes as records
 
 pub longer : (front rest : List ℕ) → length rest ≤ length (front ++ rest)
 longer front rest = omega (arith, length-append front rest)
@@ -143,14 +143,14 @@ copy-long head rows =
     let whole : length (json_copy head rows) ≡ length (before_copy head (length rows) items) = ap length (copy-text head rows) in
     omega arith
 
--- ---- what the reader promises
+-- ---- what the reader's contract says
 
 pub copy-unread : (sheet : Sheet) (bytes : List ℕ) (head : Head) (rows : List SheetRow) → length bytes < 2 ^ 64 → copy_from sheet bytes ≡ None → IsJsonCopy sheet bytes head rows → ⊥
 copy-unread sheet bytes head rows short none is =
     let fits : length rows < 2 ^ 64 = omega (arith, copy-long head rows, ap length is.text) in
     none-some (head, rows) (sym none ∙ ap (copy_from sheet) is.text ∙ copy-again sheet head rows is.begins is.each fits)
 
--- no two heads and rows have one text
+-- two copies with different heads or rows have different texts
 pub copies-differ : (sheet : Sheet) (bytes : List ℕ) (head other : Head) (rows others : List SheetRow) → length bytes < 2 ^ 64 → IsJsonCopy sheet bytes head rows
     → IsJsonCopy sheet bytes other others → (head ≡ other) × (rows ≡ others)
 copies-differ sheet bytes head other rows others short is also =

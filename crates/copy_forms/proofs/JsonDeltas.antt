@@ -1,4 +1,4 @@
--- A delta in JSON is read back from its text, and from this alone.
+-- A delta in JSON is read back from its text, and only from this.
 use Rattle.std.proofs.Common.{◌≡◌, ℕ, ◌+◌, ◌<◌, ◌≤◌, ◌^◌, Bool, true, false, cond, List, [], ◌∷◌, ◌++◌, Option, Some, None, option_map, option_and_then, unwrap_or, refl, sym, ap, ◌∙◌, subst, arith, append_assoc, length, map, codes}
 use Rattle.std.specs.Prelude.{decimal}
 use Rattle.std.specs.List.{All}
@@ -39,7 +39,7 @@ change-shape action rest =
     ∙ ap (λ l. 123 ∷ (quoted (codes "action") ++ 58 ∷ l)) (sym (append_assoc (quoted action) (44 ∷ closing) rest))
     ∙ ap (λ l. 123 ∷ l) (sym (append_assoc (quoted (codes "action")) (58 ∷ (quoted action ++ 44 ∷ closing)) rest))
 
--- the text of a change before others
+-- the text of a change, followed by others
 change-before : (change : Change) (rest : List ℕ) → json_change change ++ rest ≡ before_record (action_of change) [] ++ (json_record (changed_row change) ++ 125 ∷ rest)
 unfolding json_change
 change-before change rest =
@@ -51,7 +51,7 @@ drop_is_no_put : (rest : List ℕ) → after (before_record (codes "PUT") []) (b
 unfolding escape_byte
 drop_is_no_put rest = refl
 
--- what stands behind the begin of a change
+-- what follows the start of a change is read back
 changed-again : (sheet : Sheet) (puts : Bool) (row : SheetRow) (change : Change) (rest : List ℕ) → IsRowOf sheet row → change_of puts row ≡ Some change
     → changed_from sheet puts (json_record row ++ 125 ∷ rest) ≡ Some (change, rest)
 changed-again sheet puts row change rest sound is =
@@ -199,7 +199,7 @@ delta-taken sheet bytes head changes is =
       each = items.sound;
     })
 
--- ---- what the reader promises
+-- ---- what the reader's contract says
 
 changes-long : (later : Bool) (changes : List Change) → length changes ≤ length (records_text later (map json_change changes))
 unfolding json_change
@@ -235,7 +235,7 @@ delta-unread sheet bytes head changes short none is =
     let fits : length changes < 2 ^ 64 = omega (arith, delta-long head changes, ap length is.text) in
     none-some (head, changes) (sym none ∙ ap (delta_from sheet) is.text ∙ delta-again sheet head changes is.begins is.each fits)
 
--- no two heads and lists of changes have one text
+-- two deltas with different heads or changes have different texts
 pub deltas-differ : (sheet : Sheet) (bytes : List ℕ) (head other : Head) (changes others : List Change) → length bytes < 2 ^ 64 → IsJsonDelta sheet bytes head changes
     → IsJsonDelta sheet bytes other others → (head ≡ other) × (changes ≡ others)
 deltas-differ sheet bytes head other changes others short is also =

@@ -1,4 +1,4 @@
--- A record is read back from its text, and from this alone.
+-- A record is read back from its text, and only from this.
 use Rattle.std.proofs.Common.{◌≡◌, ℕ, suc, Bool, true, false, cond, not, ◌&&◌, List, [], ◌∷◌, ◌++◌, Option, Some, None, option_map, option_and_then, unwrap_or, refl, sym, ap, ◌∙◌, subst, arith, append_assoc, length, drop}
 use Rattle.std.specs.List.{zip, list_all}
 use Rattle.std.specs.Str.{bytes_eq, is_utf8}
@@ -18,7 +18,7 @@ use Rattle.copy_forms.proofs.JsonStrings.{after-again, after-taken, string-again
 
 -- ---- the text of a record, field by field
 
--- a field before the others
+-- a field followed by others
 lead-text : (later : Bool) (name text others : List ℕ)
     → comma_if later ++ (quoted name ++ 58 ∷ (quoted text ++ others)) ≡ lead later name ++ (escape text ++ 34 ∷ others)
 lead-text later name text others =
@@ -36,12 +36,12 @@ fields-text later (field ∷ fields) = go (is_absent field.1) refl (fields-text 
     go false absent same behind =
         rw absent (lead-text later field.0 field.1 (members_text true (members_of fields)) ∙ ap (λ l. lead later field.0 ++ (escape field.1 ++ 34 ∷ l)) behind)
 
--- ---- texts that stand
+-- ---- texts that a record may have
 
 kept-is : (text : Text) → is_absent text ≡ false → is_utf8 text ≡ true → kept text ≡ Some text
 kept-is text stands utf8 = rw (stands, utf8)
 
--- what a kept text is
+-- what `kept` says of a text
 pub record Kept (text read : Text) : Type 0 where
   pub stands : is_absent text ≡ false
   pub utf8 : is_utf8 text ≡ true
@@ -87,9 +87,9 @@ text-taken bytes text rest is = go (string_from bytes) refl is
     go None string same = cc
     go (Some read) string same = inner read.0 read.1 (kept read.0) string refl same
 
--- ---- names apart
+-- ---- names that differ
 
--- a name as it stands before a text
+-- a name in the form that it has before a text
 name_before : List ℕ → List ℕ → List ℕ
 name_before name rest = 34 ∷ (escape name ++ 34 ∷ 58 ∷ 34 ∷ rest)
 
@@ -120,12 +120,12 @@ lead-apart later name other rest apart = go (after (lead later name) (lead later
     go None is = refl
     go (Some left) is = absurd (same left (after-taken (lead later name) (lead later other ++ rest) left is))
 
--- the name is none of these
+-- the name differs from all of these
 unfoldable pub is_apart : Text → List Text → Bool
 is_apart name [] = true
 is_apart name (other ∷ others) = not (bytes_eq name other) && is_apart name others
 
--- no name stands twice
+-- no name is in the list twice
 unfoldable pub are_apart : List Text → Bool
 are_apart [] = true
 are_apart (name ∷ names) = is_apart name names && are_apart names
@@ -138,7 +138,7 @@ not-true : (b : Bool) → not b ≡ true → b ≡ false
 not-true true is = absurd (true≢false (sym is))
 not-true false is = refl
 
--- the lead of a name doesn't stand before fields of other names
+-- fields with other names don't start with the lead of a name
 lead-missed : (later : Bool) (name : Text) (names texts : List Text) (rest : List ℕ) → is_apart name names ≡ true
     → after (lead later name) (fields_text later (zip names texts) ++ rest) ≡ None
 unfolding is_apart
@@ -176,7 +176,7 @@ absent-nil : (text : Text) → is_absent text ≡ true → text ≡ []
 absent-nil [] is = refl
 absent-nil (x ∷ text) is = grind arith
 
--- the fields behind one that was read
+-- the fields after one that was read
 pub fields_behind : List Text → Option FieldRead → Option (List Text × List ℕ)
 fields_behind names found = option_and_then (λ field. option_map (λ read. (field.text ∷ read.0, read.1)) (fields_from names field.later field.rest)) found
 
@@ -200,7 +200,7 @@ pub fields-nil : (later : Bool) (bytes : List ℕ) → fields_from [] later byte
 unfolding fields_from
 fields-nil later bytes = refl
 
--- what was printed is read
+-- what was printed is read back
 pub fields-again : (names texts : List Text) (later : Bool) (rest : List ℕ) → are_apart names ≡ true → length texts ≡ length names → list_all is_utf8 texts ≡ true
     → fields_from names later (fields_text later (zip names texts) ++ rest) ≡ Some (texts, rest)
 unfolding are_apart

@@ -1,4 +1,4 @@
--- A file in JSON is read back from its text, and from this alone.
+-- A file in JSON is read back from its text, and only from this.
 use Rattle.std.proofs.Common.{◌≡◌, ℕ, ◌<◌, ◌^◌, Bool, true, false, cond, ◌&&◌, List, [], ◌∷◌, ◌++◌, Option, Some, None, Result, Ok, Err, option_map, option_and_then, unwrap_or, refl, sym, ap, ◌∙◌, subst, arith, append_assoc, length, take, drop, codes, ℤ}
 use Rattle.std.specs.Prelude.{decimal, nat_le}
 use Rattle.std.specs.List.{prefix_len}
@@ -28,7 +28,7 @@ use Rattle.copy_forms.proofs.JsonHeads.{moment-some, number-is, number-taken}
 
 -- ---- moments
 
--- the date of a file before a text
+-- the date of a file, followed by a text
 abbrev before_rest : Text → List ℕ → List ℕ
 before_rest text rest = 123 ∷ (quoted (codes "contentDate") ++ 58 ∷ (quoted text ++ rest))
 
@@ -132,7 +132,7 @@ digits-stop : (digits : List ℕ) (c : ℕ) (rest : List ℕ) → AllDigits 10 d
 digits-stop [] c rest all stop = rw stop
 digits-stop (d ∷ digits) c rest all stop = rw (digit d all.0) (omega (arith, digits-stop digits c rest all.1 stop))
 
--- behind the digits of a number stands a comma
+-- a comma follows the digits of a number
 pub number-again : (n : ℕ) (rest : List ℕ) → n < 2 ^ 64 → number_from (decimal n ++ 44 ∷ rest) ≡ Some (n, 44 ∷ rest)
 unfolding number_from
 number-again n rest fits =

@@ -1,4 +1,4 @@
--- The begin of a file is read back from its text, and from this alone.
+-- The start of a file is read back from its text, and only from this.
 use Rattle.std.proofs.Common.{◌≡◌, ℕ, ◌<◌, ◌≤◌, ◌^◌, Bool, true, false, cond, ◌&&◌, List, Option, Some, None, Result, Ok, Err, option_map, option_and_then, unwrap_or, refl, sym, ap, ◌∙◌, subst, length, take, drop, get_or, ℤ}
 use Rattle.std.specs.Prelude.{decimal, nat_lt}
 use Rattle.std.specs.List.{prefix_len}
@@ -114,7 +114,7 @@ moment-no_text text never = go (is_utf8 text) refl
     go true is = absurd (never (IsUtf8-from_is_utf8 text is))
     go false is = rw is
 
--- ---- numbers that are read
+-- ---- reading numbers
 
 pub other_number : {E : Type 0} (digits text shown : List ℕ) (read : Result ℕ E) (number : ℕ) → text ≡ digits → ParsesUnsigned 64 10 text read → read ≡ Ok number → shown ≡ decimal number
     → bytes_eq shown digits ≡ false → number_of digits ≡ None

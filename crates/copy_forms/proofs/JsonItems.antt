@@ -1,4 +1,4 @@
--- The items of a file are read back from their texts, and from these alone.
+-- The items of a file are read back from their texts, and only from these.
 use Rattle.std.proofs.Common.{◌≡◌, ℕ, zero, suc, ◌+◌, ◌-◌, ◌<◌, ◌≤◌, Bool, true, false, cond, List, [], ◌∷◌, ◌++◌, Option, Some, None, option_map, option_and_then, unwrap_or, refl, sym, ap, ◌∙◌, subst, arith, append_assoc, length, map}
 use Rattle.std.specs.Prelude.{nat_lt}
 use Rattle.std.proofs.lemmas.List.{append-nil}
@@ -21,18 +21,18 @@ pub records-text : (later : Bool) (values : List Data) → items_text later (ite
 records-text later [] = refl
 records-text later (value ∷ values) = ap (λ l. comma_if later ++ (compact_text value ++ l)) (records-text true values)
 
--- a reader of items reads back what is printed of those that are sound
+-- a reader of items reads back the printed form of each sound item
 pub record IsReader {A : Type 0} (item : List ℕ → Option (A × List ℕ)) (print : A → Text) (Sound : A → Type 0) : Type 0 where
   pub again : (a : A) (rest : List ℕ) → Sound a → item (print a ++ rest) ≡ Some (a, rest)
   pub is : (bytes : List ℕ) (a : A) (rest : List ℕ) → item bytes ≡ Some (a, rest) → bytes ≡ print a ++ rest
   pub sound : (bytes : List ℕ) (a : A) (rest : List ℕ) → item bytes ≡ Some (a, rest) → Sound a
 
--- the items behind one that was read
+-- the items from one on, given the bytes after its comma
 items_behind : {A : Type 0} → (List ℕ → Option (A × List ℕ)) → ℕ → Option (List ℕ) → Option (List A)
 items_behind {A} item n found =
     option_and_then (λ rest. option_and_then (λ read. option_map {U = List A} (λ others. read.0 ∷ others) (items_from item n true read.1)) (item rest)) found
 
--- the same, by what was read of the first
+-- the same, given what was read for the first item
 pub items_after : {A : Type 0} → (List ℕ → Option (A × List ℕ)) → ℕ → Option (A × List ℕ) → Option (List A)
 items_after {A} item n found = option_and_then (λ read. option_map {U = List A} (λ others. read.0 ∷ others) (items_from item n true read.1)) found
 
@@ -134,9 +134,9 @@ items-taken {A} item print Sound reader (suc n) later bytes items is = go (after
     go None front lower = absurd (none-some items (sym (items-no_comma item n later bytes front) ∙ is))
     go (Some behind) front lower = inner behind (item behind) front refl (sym (items-suc item n later bytes behind front) ∙ is) lower
 
--- ---- the steps of the loop
+-- ---- the iterations of the loop
 
--- items before those that are read
+-- the items that were read so far, followed by those that are read next
 abbrev pub with_items : {A : Type 0} → List A → Option (List A) → Option (List A)
 with_items front found = option_map (λ others. front ++ others) found
 

@@ -1,4 +1,4 @@
--- What is joined of rendered rows and changes is the text of their file.
+-- What is joined from rendered rows and changes is the text of their file.
 use Rattle.std.proofs.Common.{◌≡◌, List, [], ◌∷◌, ◌++◌, false, refl, sym, ap, ◌∙◌, length, map}
 use Rattle.std.specs.Borrow.{Bor}
 use Rattle.std.proofs.lemmas.List.{length-map}
@@ -50,7 +50,7 @@ delta-joined head texts changes is =
     ∙ ap (λ l. before_delta head (length changes) (records_text false l ++ 125 ∷ [])) (changes-of changes)
     ∙ ap (before_delta head (length changes)) (sym (end-is false (map json_change changes))) ∙ sym (delta-text head changes)
 
--- records that are printed one by one
+-- records that are printed one by one, joined to a copy
 pub rows-joined : (head : Head) (rows : List (Bor SheetRow))
     → before_copy head (length rows) (records_text false (map (λ row. json_record row.now) rows) ++ 125 ∷ []) ≡ json_copy head (map (λ row. row.now) rows)
 rows-joined head rows =

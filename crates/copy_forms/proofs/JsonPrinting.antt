@@ -33,7 +33,7 @@ all-get test (x ∷ xs) (suc k) all within = all-get test xs k (parts (test x) (
     parts true b is = is
     parts false b is = absurd (true≢false (sym is))
 
--- the place is one of a row's
+-- whether the place is one of a row's
 is_place : Sheet → ℕ → Bool
 is_place sheet place = nat_le 1 place && nat_le place (width sheet)
 
@@ -103,7 +103,7 @@ pub print-record : (row : SheetRow) → print (begin_object ∷ object_end (json
 unfolding json_record print_from
 print-record row = ap (λ t. 123 ∷ t) (print-fields false (json_fields row))
 
--- a field at a time
+-- one more field was written
 pub tokens-more : (row : SheetRow) (tokens more all : List Token) (k place : ℕ) → tokens ++ object_end (drop k (json_fields row)) ≡ all → k < length (json_places row.sheet)
     → place ≡ get_or (json_places row.sheet) k 0 → more ≡ tokens ++ field_tokens (field_at row place) → more ++ object_end (drop (k + 1) (json_fields row)) ≡ all
 unfolding object_end

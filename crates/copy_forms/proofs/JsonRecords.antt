@@ -1,4 +1,4 @@
--- The record of a row: its fields in byte order of their names, and back to their places.
+-- The record of a row: its fields in byte order of their names, and their order of place restored.
 use Rattle.std.proofs.Common.{◌≡◌, ℕ, zero, suc, ◌-◌, Bool, true, false, cond, ◌==◌, ◌&&◌, List, [], ◌∷◌, ◌++◌, Option, Some, None, option_map, option_and_then, unwrap_or, inl, inr, refl, sym, ap, ◌∙◌, subst, arith, append_assoc, length, get_or, map, codes, length-append}
 use Rattle.std.specs.List.{zip, list_all}
 use Rattle.std.specs.Str.{is_utf8}
@@ -44,7 +44,7 @@ length-names Sheet.Lei = refl
 length-names Sheet.Rr = refl
 length-names Sheet.Repex = refl
 
--- so many places, from the one behind k
+-- this many places, starting after k
 places_from : ℕ → ℕ → List ℕ
 places_from k zero = []
 places_from k (suc n) = suc k ∷ places_from (suc k) n
@@ -57,7 +57,7 @@ text-next front others text =
     ap (λ b. cond b (codes "") (get_or all (suc (length front) - 1) (codes ""))) not_first ∙ ap (λ k. get_or all k (codes "")) at
     ∙ get_or_at front text others (codes "") (length front) refl
 
--- the texts at all places are all texts
+-- the texts at all places are the whole list
 listed : (front texts : List Text) → map (text_at (front ++ texts)) (places_from (length front) (length texts)) ≡ texts
 unfolding places_from
 listed front [] = refl
@@ -96,7 +96,7 @@ length-places Sheet.Lei = refl
 length-places Sheet.Rr = refl
 length-places Sheet.Repex = refl
 
--- texts at places are UTF-8
+-- the text at a place is UTF-8 if all texts are
 utf8-get : (texts : List Text) (k : ℕ) → list_all is_utf8 texts ≡ true → is_utf8 (get_or texts k (codes "")) ≡ true
 utf8-get [] k all = utf8-nil
 utf8-get (text ∷ texts) zero all = (all_parts (is_utf8 text) (list_all is_utf8 texts) all).0

@@ -15,7 +15,7 @@ use Rattle.copy_forms.specs.JsonReading.{Added, Fails, Gives, FieldRead, after, 
 use Rattle.copy_forms.proofs.JsonStrings.{string-end, string-plain, with_text-none}
 use Rattle.copy_forms.proofs.JsonFields.{behind-none, behind-some, fields-cons, fields-nil, fields_behind}
 
--- what fails in a part fails as a whole
+-- if reading a part fails, reading the whole fails
 pub fails-through : {X Y : Type 0} (fault : FormFault) (part : Option X) (whole : Option Y) → (part ≡ None → whole ≡ None) → Fails fault part → Fails fault whole
 fails-through faults.NotRead part whole step is = step is
 fails-through faults.NoMemory part whole step is = tt
@@ -58,7 +58,7 @@ text-some bytes text rest read string keeps = text-by bytes text rest string ∙
 
 -- ---- fields
 
--- texts before those that are read
+-- texts that were read so far, followed by those that are read next
 abbrev pub with_texts : List Text → Option (List Text × List ℕ) → Option (List Text × List ℕ)
 with_texts front found = option_map (λ read. (front ++ read.0, read.1)) found
 
@@ -71,7 +71,7 @@ with_texts-more : (front : List Text) (text : Text) (found : Option (List Text �
 with_texts-more front text None = refl
 with_texts-more front text (Some read) = ap (λ t. Some (t, read.1)) (append_assoc front (text ∷ []) read.0)
 
--- a field that is read by its lead
+-- a field that is read after its lead
 field-by : (name : Text) (later : Bool) (front bytes : List ℕ) → front ≡ lead later name → field_from name later bytes ≡ field_behind later bytes (after front bytes)
 unfolding field_from
 field-by name later front bytes is = ap (λ l. field_behind later bytes (after l bytes)) (sym is)
@@ -108,7 +108,7 @@ lead-made name out tokens before comma is printed =
     let made : out ≡ 44 ∷ ((quoted name ++ 58 ∷ []) ++ []) = printed ∙ ap (λ b. b ++ print tokens) comma ∙ ap (λ t. 44 ∷ print t) is in
     ap (λ l. l ++ 34 ∷ []) (made ∙ ap (λ l. 44 ∷ l) (append-nil (quoted name ++ 58 ∷ []))) ∙ ap (λ l. 44 ∷ l) (append_assoc (quoted name) (58 ∷ []) (34 ∷ []))
 
--- ---- lists that are made by place
+-- ---- lists that are built place by place
 
 pub mapped-more : (f : ℕ → Text) (places : List ℕ) (made new : List Text) (k place : ℕ) (text : Text) → made ≡ map f (take k places) → k < length places → place ≡ get_or places k 0
     → text ≡ f place → new ≡ made ++ text ∷ [] → new ≡ map f (take (k + 1) places)
@@ -123,7 +123,7 @@ pub map-lead : (names : ℕ → Text) (places : List ℕ) → map (λ place. lea
 map-lead names [] = refl
 map-lead names (place ∷ places) = ap (λ l. lead true (names place) ∷ l) (map-lead names places)
 
--- ---- what a reader's answer means
+-- ---- what a reader's result means
 
 pub gives-ok : {X Y : Type 0} (view : X → Y) (result : Result X FormFault) (found : Option Y) (P : X → Type 0) → Gives view result found
     → ((x : X) → found ≡ Some (view x) → P x) → IfOk result P

@@ -14,7 +14,7 @@ use Rattle.json.specs.Text.{content, plain, prepend, code_unit, short_escape}
 use Rattle.json.proofs.Printed.Strings.{content-escape, escape_byte_plain}
 use Rattle.copy_forms.specs.JsonReading.{after, escaped, escapes, is_escaped, read_escape, string_from, HasNoEscape}
 
--- ---- fronts
+-- ---- prefixes
 
 pub after-again : (front rest : List ℕ) → after front (front ++ rest) ≡ Some rest
 after-again [] rest = refl
@@ -43,7 +43,7 @@ after-shift (x ∷ common) front rest = rw (same x) (after-shift common front re
     same : (x : ℕ) → (x == x) ≡ true
     same x = grind arith
 
--- what the comparison of a front says
+-- the comparison with a prefix says whether the bytes start with it
 pub after-found : (front bytes rest : List ℕ) → pointwise ◌==◌ (take (length front) bytes) front ≡ true → rest ≡ drop (length front) bytes
     → after front bytes ≡ Some rest
 after-found front bytes rest test is =
@@ -64,11 +64,11 @@ after-missed front bytes test = go (after front bytes) refl
 
 -- ---- one byte
 
--- what is read of the escape of a byte before any others
+-- reading the escape of a byte, whatever bytes follow it
 record Passes (byte : ℕ) : Type 0 where
   read : (rest : List ℕ) → content plain (escape_byte byte ++ rest) ≡ prepend (byte ∷ []) (content plain rest)
 
--- each number below n has the property, the greatest first
+-- each byte below n has the property; the greatest comes first
 abbrev DownFrom : ℕ → Type 0
 DownFrom zero = Unit {0}
 DownFrom (suc n) = ((rest : List ℕ) → content plain (escape_byte n ++ rest) ≡ prepend (n ∷ []) (content plain rest)) × DownFrom n
@@ -134,7 +134,7 @@ string-taken bytes text rest is = go (content plain bytes) is
     go None same = cc
     go (Some found) same = behind found (after (escape found ++ 34 ∷ []) bytes) refl same
 
--- a text with more before it
+-- what was read, preceded by a text
 abbrev pub with_text : List ℕ → Option (List ℕ × List ℕ) → Option (List ℕ × List ℕ)
 with_text text found = option_map (λ read. (text ++ read.0, read.1)) found
 
@@ -175,12 +175,12 @@ below-each (suc n) test all k less = go (cases_eq k n) (below-each n test (and_p
     go (inl same) lower = ap test same ∙ (and_parts (test n) (below n test) all).0
     go (inr other) lower = lower (omega arith)
 
--- each escape has a byte
+-- each escape has at least one byte
 all_long : below 34 (λ place. nat_lt 0 (length (escape_byte (get_or escaped place 0)))) ≡ true
 unfolding below escape_byte
 all_long = refl
 
--- an escaped byte stands in the list of them
+-- an escaped byte is in the list of them
 record Place (byte : ℕ) : Type 0 where
   place : ℕ
   within : place < 34
@@ -217,7 +217,7 @@ length-escapes : length escapes ≡ 34
 unfolding escapes
 length-escapes = refl
 
--- the entries of a table that is this list
+-- the entries of a table that reads as this list
 pub length-table : (table : List (ℕ × Bor (List ℕ))) → map read_escape table ≡ escapes → length table ≡ 34
 length-table table is = sym (length-map table read_escape) ∙ ap length is ∙ length-escapes
 
@@ -233,7 +233,7 @@ entry-escape table place none is within =
     let both = sym (entry-read table place none is within) ∙ escape_at place (omega arith) in
     ap (λ e. e.1) both ∙ sym (ap (λ e. escape_byte e.0) both)
 
--- ---- the steps of the loop
+-- ---- the iterations of the loop
 
 pub with_text-none : (found : Option (List ℕ × List ℕ)) → with_text [] found ≡ found
 with_text-none None = refl
@@ -261,14 +261,14 @@ string-run (suc n) (x ∷ rest) fits plain_each =
     ap (λ front. string_from (front ++ rest)) (sym is_plain) ∙ string-front x rest ∙ ap (with_text (x ∷ [])) others
     ∙ with_text-append (x ∷ []) (take n rest) (string_from (drop n rest))
 
--- front bytes join the text
+-- plain bytes are appended to the text
 pub string-plain : (text front stop rest : List ℕ) (n : ℕ) (all : Option (List ℕ × List ℕ)) → with_text text (string_from rest) ≡ all → n ≤ length rest
     → ((k : ℕ) → k < n → is_escaped (get_or rest k 0) ≡ false) → front ≡ take n rest → stop ≡ drop n rest → with_text (text ++ front) (string_from stop) ≡ all
 string-plain text front stop rest n all is fits each is_front behind =
     ap (λ l. with_text (text ++ l) (string_from stop)) is_front ∙ ap (λ l. with_text (text ++ take n rest) (string_from l)) behind
     ∙ sym (with_text-append text (take n rest) (string_from (drop n rest))) ∙ ap (with_text text) (sym (string-run n rest fits each)) ∙ is
 
--- the quote ends it
+-- the closing quote ends the text
 pub string-end : (text stop behind : List ℕ) (all : Option (List ℕ × List ℕ)) → with_text text (string_from stop) ≡ all → after (34 ∷ []) stop ≡ Some behind → all ≡ Some (text, behind)
 string-end text stop behind all is quote =
     sym is ∙ ap (λ l. with_text text (string_from l)) (after-taken (34 ∷ []) stop behind quote) ∙ ap (with_text text) (string-again [] behind)
@@ -290,7 +290,7 @@ escape-long byte = go (is_escaped byte) refl
         long place within = ltb-true 0 _ (below-each 34 (λ k. nat_lt 0 (length (escape_byte (get_or escaped k 0)))) all_long place within)
     go false is = subst (λ l. 0 < length l) (sym (plain_byte byte is)) (omega arith)
 
--- and takes bytes away
+-- and consumes bytes
 pub string-shorter : (stop behind rest : List ℕ) (byte n : ℕ) → stop ≡ drop n rest → stop ≡ escape_byte byte ++ behind → length behind < length rest
 string-shorter stop behind rest byte n is front =
     let long = escape-long byte in
@@ -298,7 +298,7 @@ string-shorter stop behind rest byte n is front =
     let parts : length stop ≡ length (escape_byte byte) + length behind = ap length front ∙ length-append (escape_byte byte) behind in
     omega arith
 
--- where neither stands, nothing was printed
+-- if neither comes next, no string was printed here
 pub string-none : (text stop rest : List ℕ) (n : ℕ) (all : Option (List ℕ × List ℕ)) → with_text text (string_from stop) ≡ all → n ≤ length rest → stop ≡ drop n rest
     → (n < length rest → is_escaped (get_or rest n 0) ≡ true) → None ≡ after (34 ∷ []) stop → HasNoEscape stop → all ≡ None
 string-none text stop rest n all is fits behind escaped_next quote none = sym is ∙ ap (with_text text) (go (string_from stop) refl)

@@ -1,4 +1,4 @@
--- What is written of a file, token by token and record by record, is its text.
+-- What is written for a file, token by token and record by record, is its text.
 use Rattle.std.proofs.Common.{◌≡◌, ℕ, ◌+◌, ◌<◌, ◌≤◌, Bool, true, List, [], ◌∷◌, ◌++◌, sym, ap, ◌∙◌, arith, append_assoc, length, drop, get_or, map, codes}
 use Rattle.std.specs.Prelude.{decimal, nat_lt}
 use Rattle.std.proofs.lemmas.Bool.{lt-ltb}
@@ -11,7 +11,7 @@ use Rattle.lei_shapes.specs.Clock.{moment_text}
 use Rattle.copy_csv.specs.declared.heads.Head.{Head}
 use Rattle.copy_forms.specs.JsonTexts.{before_copy, before_delta, records_text}
 
--- the last members of a file
+-- the tokens of the last members of a file, up to the start of the array
 records_tokens : ℕ → List Token
 records_tokens count = key (codes "recordCount") ∷ number (decimal count) ∷ key (codes "records") ∷ begin_array ∷ []
 

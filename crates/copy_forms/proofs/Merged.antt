@@ -1,4 +1,4 @@
--- Rows and changes that are walked side by side are the patched rows, and these are rows of the sheet.
+-- Merging rows and changes gives the patched rows, and these are rows of the sheet.
 use Rattle.std.proofs.Common.{◌≡◌, Bool, true, false, cond, Option, None, Some, List, [], ◌∷◌, ◌++◌, map, refl, sym, ap, subst, ◌∙◌}
 use Rattle.std.specs.Prelude.{flat_map, ⊤}
 use Rattle.std.specs.FinMap.{get, get-insert, get-remove, same_map, values}
@@ -78,7 +78,7 @@ get_all : (m : Keyed) (changes : List Change) (k : KeyTexts) → get (all_change
 get_all m [] k = refl
 get_all m (change ∷ changes) k = get_all (changed m change) changes k ∙ ap (after k changes) (get_changed m change k)
 
--- ---- the row of a key in what was merged
+-- ---- the row of a key among merged rows
 
 abbrev first_of : Option SheetRow → Option SheetRow → Option SheetRow
 first_of None o = o
@@ -97,7 +97,7 @@ first_alone : (o : Option SheetRow) → first_of o None ≡ o
 first_alone None = refl
 first_alone (Some row) = refl
 
--- a change before rows in which its key doesn't stand
+-- what a change puts, followed by rows that lack its key
 put_found : (k : KeyTexts) (change : Change) (changes : List Change) (rows : List SheetRow) (o o' : Option SheetRow)
     → Above (changed_key change) (map changed_key changes) → find_row k rows ≡ after k changes o → (k ≡ changed_key change → o ≡ None)
     → (eq_by_cmp key_cmp k (changed_key change) ≡ false → o ≡ o')
@@ -161,7 +161,7 @@ merged_found : (k : KeyTexts) (rows : List SheetRow) → Rises (map key rows) �
 merged_found k [] up changes are = puts_found k changes are
 merged_found k (row ∷ rows) up changes are = placed_found k row rows (merged rows) (merged_found k rows up.1) up.0 changes are
 
--- ---- its keys rise
+-- ---- the keys of merged rows rise
 
 above_put : (j : KeyTexts) (change : Change) (rows : List SheetRow) → key_cmp j (changed_key change) ≡ Ordering.Less → Above j (map key rows)
     → Above j (map key (put_by change ++ rows))
@@ -229,7 +229,7 @@ merged_rises : (rows : List SheetRow) → Rises (map key rows) → (changes : Li
 merged_rises [] up changes are = rises_puts changes are
 merged_rises (row ∷ rows) up changes are = rises_placed row rows up.0 (merged_rises rows up.1) changes are
 
--- ---- so they are the patched rows
+-- ---- so the merged rows are the patched rows
 
 pub merged_is : (rows : List SheetRow) (changes : List Change) → AreRising (map key rows) → AreRising (map changed_key changes)
     → merged rows changes ≡ patched rows changes
@@ -244,7 +244,7 @@ merged_is rows changes up are =
     sym (values_keyed (merged rows changes) (rising-from (map key (merged rows changes)) (merged_rises rows up_rises changes are_rises)))
     ∙ ap (λ m. values m) same
 
--- ---- and of a sheet's rows and changes they are rows of the sheet
+-- ---- if rows and changes are of a sheet, the merged rows are rows of the sheet
 
 module _ (sheet : Sheet) where
   each_put : (change : Change) (rows : List SheetRow) → IsChangeOf sheet change → All (IsRowOf sheet) rows → All (IsRowOf sheet) (put_by change ++ rows)

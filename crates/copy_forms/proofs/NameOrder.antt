@@ -11,7 +11,7 @@ use Rattle.lei_records.specs.Fields.{exception_fields, fields, relation_fields}
 use Rattle.register_words.specs.declared.sheets.Sheet.{Sheet}
 use Rattle.copy_forms.specs.Json.{json_names}
 
--- each name stands before the next one
+-- whether each name comes before the next one
 adjacent : List Text → Bool
 adjacent [] = true
 adjacent (x ∷ []) = true

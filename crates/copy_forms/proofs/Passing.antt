@@ -1,4 +1,4 @@
--- How a walk passes a row, and what its end puts.
+-- How a walk over rows passes a row, and what is put at its end.
 use Rattle.std.proofs.Common.{◌≡◌, ℕ, ◌+◌, ◌-◌, ◌<◌, ◌≤◌, Bool, true, false, List, [], ◌∷◌, ◌++◌, length, take, drop, get_or, map, refl, sym, ap, subst, ◌∙◌, append_assoc, arith}
 use Rattle.std.specs.Prelude.{flat_map, if◌then◌else◌}
 use Rattle.std.specs.Borrow.{Bor}
@@ -15,20 +15,20 @@ use Rattle.copy_forms.specs.Patching.{patched}
 use Rattle.copy_forms.specs.Merging.{PassesRow, StandsAmong, merged, placed, put_between, put_by}
 use Rattle.copy_forms.proofs.Merged.{merged_is}
 
--- the change at an index, before the others
+-- the change at an index, followed by the others
 next_change : (changes : List Change) (i : ℕ) (change : Change) → i < length changes → change ≡ get_or changes i change
     → change ∷ drop (i + 1) changes ≡ drop i changes
 next_change changes i change within here =
     sym (drop_more changes i change within ∙ ap (λ y. y ∷ drop (i + 1) changes) (sym here))
 
 module _ {X : Type 0} (print : SheetRow → List X) where
-  -- the walk stands before a row, and so many changes were put before it
+  -- the walk is at a row, and what the changes before `next` put was put before the row
   abbrev pub StandsBefore : List Change → SheetRow → ℕ → List X → ℕ → List X → Type 0
   StandsBefore changes row at old next new =
       (more : List SheetRow)
       → new ++ flat_map print (merged (row ∷ more) (drop next changes)) ≡ old ++ flat_map print (merged (row ∷ more) (drop at changes))
 
-  -- what was put before the others
+  -- what was put, followed by the others
   before : (put others : List SheetRow) (old new : List X) → new ≡ old ++ flat_map print put
       → new ++ flat_map print others ≡ old ++ flat_map print (put ++ others)
   before put others old new is =
@@ -80,7 +80,7 @@ module _ {X : Type 0} (print : SheetRow → List X) where
       ∙ ap (λ l. out ++ flat_map print (placed row (merged more) l)) (sym (drop_all i changes past))
       ∙ stands more
 
-  -- a row that stands among changes was passed, if what those before it put was put, and the row if it stays
+  -- a row that is placed among changes was passed, if what the changes before it put was put, and the row if it stays
   pub passes-printed : (changes : List Change) (row : SheetRow) (at next : ℕ) (stays : Bool) (old new : List X) → StandsAmong changes row at next stays
       → new ≡ (old ++ flat_map print (put_between changes at next)) ++ (if stays then print row else []) → PassesRow print changes row at old next new
   passes-printed changes row at next stays old new stands put more =
@@ -105,7 +105,7 @@ pub all-alone : (rows : List SheetRow) → flat_map alone rows ≡ rows
 all-alone [] = refl
 all-alone (row ∷ rows) = ap (λ l. row ∷ l) (all-alone rows)
 
--- one more lent row
+-- one more borrowed row
 pub held-push : (xs new : List (Bor SheetRow)) (x : Bor SheetRow) → new ≡ xs ++ x ∷ []
     → map (λ row. row.now) new ≡ map (λ row. row.now) xs ++ alone x.now
 held-push xs new x is = ap (map (λ row. row.now)) is ∙ all xs
@@ -114,7 +114,7 @@ held-push xs new x is = ap (map (λ row. row.now)) is ∙ all xs
     all [] = refl
     all (y ∷ xs) = ap (λ l. y.now ∷ l) (all xs)
 
--- what changes put of rows, each put as itself
+-- the same for rows that are each put as itself
 pub passes-alone : (changes : List Change) (row : SheetRow) (at next : ℕ) (stays : Bool) (old new : List SheetRow) → StandsAmong changes row at next stays
     → new ≡ (old ++ put_between changes at next) ++ (if stays then row ∷ [] else []) → PassesRow alone changes row at old next new
 passes-alone changes row at next stays old new stands put =
@@ -140,7 +140,7 @@ stands-so changes row at next stays = subst (λ (l : List Change). StandsAmong l
 -- ---- a row among changes that their holder has in a form of its own
 
 module _ {X : Type 0} (held : X → Change) (xs : List X) (row : SheetRow) (at : ℕ) where
-  -- the walk stands before the row, and the changes up to an index have lesser keys
+  -- the walk is at the row, and the changes up to an index have lesser keys
   pub record StandsAt (index : ℕ) : Type 0 where
     pub onward : at ≤ index
     pub walk : (more : List SheetRow)
@@ -152,13 +152,13 @@ module _ {X : Type 0} (held : X → Change) (xs : List X) (row : SheetRow) (at :
       none : at - at ≡ 0
       none = omega arith
 
-  -- the change at an index, before the others
+  -- the change at an index, followed by the others
   here : (i : ℕ) (x : X) → i < length xs → x ≡ get_or xs i x → held x ∷ drop (i + 1) (map held xs) ≡ drop i (map held xs)
   here i x within is =
       let long : length (map held xs) ≡ length xs = length-map xs held in
       next_change (map held xs) i (held x) (omega arith) (ap held is ∙ sym (get_or-map held xs i x))
 
-  -- what it puts after what those before it put
+  -- what it puts follows what the changes before it put
   put_more : (i : ℕ) (x : X) → at ≤ i → i < length xs → x ≡ get_or xs i x
       → put_between (map held xs) at (i + 1) ≡ put_between (map held xs) at i ++ put_by (held x)
   put_more i x onward within is =
@@ -177,7 +177,7 @@ module _ {X : Type 0} (held : X → Change) (xs : List X) (row : SheetRow) (at :
       ∙ flat_map-append put_by front (held x ∷ [])
       ∙ ap (λ l. flat_map put_by (take (i - at) (drop at (map held xs))) ++ l) (append-nil (put_by (held x)))
 
-  -- what a change and the row make of the changes from its index on
+  -- what a change and the row give for the changes from its index on
   placed_here : (i : ℕ) (x : X) → i < length xs → x ≡ get_or xs i x → (o : Ordering) → key_cmp (changed_key (held x)) (key row) ≡ o → (more : List SheetRow)
       → by_order o (put_by (held x) ++ placed row (merged more) (drop (i + 1) (map held xs))) (put_by (held x) ++ merged more (drop (i + 1) (map held xs)))
       (row ∷ merged more (held x ∷ drop (i + 1) (map held xs)))

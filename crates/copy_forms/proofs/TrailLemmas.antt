@@ -1,4 +1,4 @@
--- What a delta has of touched keys, and that it leads from rows to rows.
+-- What a delta says about touched keys, and that it leads from rows to rows.
 use Rattle.std.proofs.Common.{◌≡◌, ℕ, zero, suc, ◌+◌, ◌-◌, ◌≤◌, T, Bool, true, false, ◌||◌, cond, Option, None, Some, List, [], ◌∷◌, ◌++◌, length, map, refl, sym, ap, subst, ◌∙◌, arith, length-append}
 use Rattle.std.specs.Prelude.{is_some, codes, replicate, unwrap_or}
 use Rattle.std.specs.FinMap.{IsAntisymmetric, empty, entries, len-empty, len-entries, entries-from_sorted, entries-insert, entries_sorted, find, from_entries, from_sorted, get, get-from_entries, get-from_sorted, get-insert, get-remove, is_sorted, keys, contains_key-keys, nat_cmp-IsAntisymmetric, same_map, slice_cmp-IsAntisymmetric, values}
@@ -38,7 +38,7 @@ less Ordering.Less e = refl
 less Ordering.Equal e = absurd (false≢true e)
 less Ordering.Greater e = absurd (false≢true e)
 
--- keys that tie are one
+-- keys that compare as equal are equal
 pub tied : (j k : KeyTexts) → eq_by_cmp key_cmp j k ≡ true → j ≡ k
 tied j k e = key_same j k (equal (key_cmp j k) e)
 
@@ -73,7 +73,7 @@ under rows k = get-from_entries key_total (map (λ row. (key row, row)) rows) k
 key_dropped : (sheet : Sheet) (k : KeyTexts) → IsKeyOf sheet k → key (dropped_row sheet k) ≡ k
 key_dropped sheet k is = take_at k (replicate (width sheet - key_len sheet) (codes "")) (key_len sheet) is.full
 
--- the key of a change is the key that it is made of
+-- the key of a change is the key for which the change was made
 key_change : (sheet : Sheet) (now : List SheetRow) (k : KeyTexts) → IsKeyOf sheet k → changed_key (change_of sheet now k) ≡ k
 key_change sheet now k is = by (row_under now k) (sym (under now k))
   where
@@ -119,7 +119,7 @@ among_ordered touched k =
     firsts [] = refl
     firsts (k ∷ ks) = ap (λ l. k ∷ l) (firsts ks)
 
--- ---- what stands in the order of keys
+-- ---- properties of entries in the order of their keys
 
 put-all : (P : KeyTexts → Type 0) (k v : KeyTexts) (es : List (KeyTexts × KeyTexts)) → P k → All P (map (λ (e : KeyTexts × KeyTexts). e.0) es)
     → All P (map (λ (e : KeyTexts × KeyTexts). e.0) (put key_cmp k v es))
@@ -151,7 +151,7 @@ below : {X : Type 0} (k : KeyTexts) (es : List (KeyTexts × X)) → below_all ke
 below k [] e = tt
 below k (x ∷ es) e = let parts = and_parts (is_lt (key_cmp k x.0)) (below_all key_cmp k es) e in (less (key_cmp k x.0) parts.0, below k es parts.1)
 
--- sorted entries have rising keys
+-- the keys of sorted entries rise
 rising_entries : {X : Type 0} (es : List (KeyTexts × X)) → is_sorted key_cmp es ≡ true → AreRising (map (λ (e : KeyTexts × X). e.0) es)
 unfolding IsStrictlySortedBy
 rising_entries [] e = tt
@@ -163,7 +163,7 @@ above : (k : KeyTexts) (rows : List SheetRow) → AllByRecursion (λ j. key_cmp 
 above k [] all = refl
 above k (x ∷ rows) all = and_from (is_lt (key_cmp k (key x))) (below_all key_cmp k (map (λ row. (key row, row)) rows)) (ap is_lt all.0) (above k rows all.1)
 
--- and rows with rising keys are sorted under them
+-- and rows with rising keys are sorted under these
 sorted_rows : (rows : List SheetRow) → AreRising (map key rows) → is_sorted key_cmp (map (λ row. (key row, row)) rows) ≡ true
 unfolding IsStrictlySortedBy
 sorted_rows [] rising = refl
@@ -171,7 +171,7 @@ sorted_rows (x ∷ rows) rising =
     and_from (below_all key_cmp (key x) (map (λ row. (key row, row)) rows)) (is_sorted key_cmp (map (λ row. (key row, row)) rows))
     (above (key x) rows rising.0) (sorted_rows rows rising.1)
 
--- so they are the values of these
+-- so the rows are the values in this order
 pub values_keyed : (rows : List SheetRow) → AreRising (map key rows) → values (keyed rows) ≡ rows
 values_keyed rows rising =
     let sorted : is_sorted key_cmp (map (λ row. (key row, row)) rows) ≡ true = sorted_rows rows rising in
@@ -187,7 +187,7 @@ values_keyed rows rising =
 
 -- ---- patching leads on
 
--- rows are patched to other rows by what a delta has of keys, among which is each key whose row differs
+-- rows are patched to other rows by a delta's changes, if the delta covers each key whose row differs
 pub leads_over : (sheet : Sheet) (before now : List SheetRow) (touched : List KeyTexts) → AreRising (map key now) → All (IsKeyOf sheet) touched
     → ((k : KeyTexts) → is_among k touched ≡ false → row_under now k ≡ row_under before k)
     → patched before (map (change_of sheet now) (in_order touched)) ≡ now
@@ -204,7 +204,7 @@ leads_over sheet before now touched rising keys kept =
     settled k true e = refl
     settled k false e = sym (kept k e)
 
--- ---- what stands in a delta
+-- ---- what is in a delta
 
 -- a row under a key is one of the rows
 one_of : (P : SheetRow → Type 0) (now : List SheetRow) (k : KeyTexts) (row : SheetRow) → All P now → row_under now k ≡ Some row → P row
@@ -281,7 +281,7 @@ are_changes sheet now touched rows keys =
     true_of true t = refl
     true_of false t = absurd t
 
--- ---- what each width shows of a delta
+-- ---- what files of each width have of a delta
 
 drop-fits : (sheet : Sheet) (form : Form) (wide : Bool) (k : KeyTexts) → IsKeyOf sheet k → FitsIn form wide (dropped_row sheet k)
 drop-fits sheet Form.Json wide k is = tt
@@ -302,7 +302,7 @@ changes-fit sheet form wide now (k ∷ ks) fit keys =
     All-cons (λ change. FitsIn form wide (changed_row change)) (change_of sheet now k) (map (change_of sheet now) ks)
     (change-fits sheet form wide now k fit (All-head (IsKeyOf sheet) k ks keys)) (changes-fit sheet form wide now ks fit (All-tail (IsKeyOf sheet) k ks keys))
 
--- the changes of a delta in the order of their keys fit the width that all rows fit
+-- the changes of a delta, in the order of their keys, fit a width if all rows do
 pub ordered-fit : (sheet : Sheet) (form : Form) (wide : Bool) (now : List SheetRow) (touched : List KeyTexts) → All (FitsIn form wide) now
     → All (IsKeyOf sheet) touched → All (λ change. FitsIn form wide (changed_row change)) (map (change_of sheet now) (in_order touched))
 ordered-fit sheet form wide now touched fit keys =

@@ -1,4 +1,4 @@
--- Items of the register, as the records of their rows.
+-- Items of the register as the JSON records of their rows.
 use Rattle.lei_code.specs.Texts.{Text}
 use Rattle.lei_records.specs.declared.item.Item.{Item}
 use Rattle.register_words.specs.declared.sheets.Sheet.{Sheet}
@@ -11,6 +11,6 @@ sheet_row (Item.Record row) = row_of Sheet.Lei row
 sheet_row (Item.Relation row) = row_of Sheet.Rr row
 sheet_row (Item.Exception item) = row_of Sheet.Repex item.0
 
--- The row as a JSON object of its present fields.
+-- The item's row as a JSON object of the fields that are present.
 abbrev pub item_text : Item → Text
 item_text item = json_record (sheet_row item)

@@ -1,5 +1,5 @@
--- The text of a golden copy and of a delta in JSON: the compact text of a value (RFC 8259), with no space, the shortest
--- escapes and no byte behind it. What the value has is this project's profile.
+-- The text of a golden copy and of a delta in JSON: the compact text of a value (RFC 8259), with no space, with the
+-- shortest escapes and with no byte after it. What the value has is this project's profile.
 use Rattle.std.specs.Prelude.{ℕ, List, [], ◌∷◌, map, length, codes, if◌then◌else◌}
 use Rattle.serde_json.specs.Data.{Data, string, number, unsigned, array, object, Items, no_items, item, Members, no_members, member}
 use Rattle.serde_json.specs.Written.{compact_text}
@@ -15,7 +15,8 @@ use Rattle.copy_csv.specs.Sheets.{SheetRow, names}
 
 -- ---- a record
 
--- The places of a sheet's fields in byte order of their names: `Entity.EntityCategory` is the 17th field of a record.
+-- The places of a sheet's fields in byte order of their names: `Entity.EntityCategory` comes first and is the 17th
+-- field of a record.
 abbrev pub json_places : Sheet → List ℕ
 json_places Sheet.Lei =
     17 ∷ 20 ∷ 19 ∷ 30 ∷ 31 ∷ 32 ∷ 29 ∷ 10 ∷ 12 ∷ 9 ∷ 13 ∷ 11 ∷ 5 ∷ 7 ∷ 4 ∷ 8 ∷ 6 ∷ 18 ∷ 16 ∷ 2 ∷ 3 ∷ 15 ∷ 14
@@ -27,7 +28,7 @@ json_places Sheet.Repex = 2 ∷ 3 ∷ 4 ∷ 1 ∷ []
 abbrev pub json_names : Sheet → List Text
 json_names sheet = map (text_at (names sheet)) (json_places sheet)
 
--- A field's name and its text.
+-- A field: its name and its text.
 abbrev pub Field : Type 0
 Field = Text × Text
 
@@ -39,17 +40,17 @@ field_at row place = (text_at (names row.sheet) place, text_at row.texts place)
 abbrev pub json_fields : SheetRow → List Field
 json_fields row = map (field_at row) (json_places row.sheet)
 
--- The members of an object: of these fields the ones that are present, each a name and its text.
+-- The members of an object: those of these fields that are present, each with its name and its text.
 abbrev pub members_of : List Field → Members
 members_of [] = no_members
 members_of (field ∷ fields) =
     if is_absent field.1 then members_of fields else member field.0 (string field.1) (members_of fields)
 
--- A row as a JSON object of its present fields.
+-- A row as a JSON object of the fields that are present.
 abbrev pub record_value : SheetRow → Data
 record_value row = object (members_of (json_fields row))
 
--- Its text.
+-- The text of this object.
 unfoldable pub json_record : SheetRow → Text
 json_record row = compact_text (record_value row)
 
@@ -60,39 +61,39 @@ abbrev pub items_of : List Data → Items
 items_of [] = no_items
 items_of (value ∷ values) = item value (items_of values)
 
--- The last members of a copy and of a delta: how many records they have, and these.
+-- The last members of a copy and of a delta: the number of the records, and the records.
 abbrev pub records_members : List Data → Members
 records_members values =
     member (codes "recordCount") (number (unsigned (length values)))
     (member (codes "records") (array (items_of values)) no_members)
 
--- A copy: the moment and the number of its publication, and its rows in their order.
+-- A copy: the moment and the number of its publication, and its rows in order.
 abbrev pub copy_value : Head → List SheetRow → Data
 copy_value head rows =
     object
     (member (codes "contentDate") (string (moment_text head.moment))
     (member (codes "publication") (number (unsigned head.publication)) (records_members (map record_value rows))))
 
--- Its text.
+-- The text of a copy.
 unfoldable pub json_copy : Head → List SheetRow → Text
 json_copy head rows = compact_text (copy_value head rows)
 
 -- ---- a delta
 
--- What a change does: its row is put, or the row of its key is dropped.
+-- The action of a change: its row is put, or the row of its key is dropped.
 abbrev pub action_of : Change → Text
 action_of (Change.Put row) = codes "PUT"
 action_of (Change.Drop row) = codes "DROP"
 
--- A change: what it does, and its row. The row of a key that is dropped has its key alone.
+-- A change: its action, and its row. The row of a dropped key has only the key.
 abbrev pub change_value : Change → Data
 change_value change =
     object
     (member (codes "action") (string (action_of change))
     (member (codes "record") (record_value (changed_row change)) no_members))
 
--- A delta: the moment and the number of its publication, the number of the one that it goes from, and its changes in
--- their order.
+-- A delta: the moment and the number of its publication, the number of the publication that it starts from, and its
+-- changes in order.
 abbrev pub delta_value : Head → List Change → Data
 delta_value head changes =
     object
@@ -100,6 +101,6 @@ delta_value head changes =
     (member (codes "fromPublication") (number (unsigned head.from))
     (member (codes "publication") (number (unsigned head.publication)) (records_members (map change_value changes)))))
 
--- Its text.
+-- The text of a delta.
 unfoldable pub json_delta : Head → List Change → Text
 json_delta head changes = compact_text (delta_value head changes)

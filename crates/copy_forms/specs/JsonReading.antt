@@ -1,4 +1,5 @@
--- What is read of JSON: the one text that was printed there and the bytes behind it, or nothing where no text was.
+-- What is read from JSON: the only value whose text is printed there, and the bytes after it; or nothing, if no such
+-- text is there.
 use Rattle.std.specs.Prelude.{◌≡◌, ℕ, zero, suc, List, [], ◌∷◌, ◌++◌, ◌==◌, nat_lt, Bool, true, false, ◌||◌, if◌then◌else◌, Option, Some, None, Result, Ok, Err, option_map, option_and_then, ℤ, ◌^◌, ◌&&◌, nat_le, decimal, codes, take, drop, map, ⊤}
 use Rattle.std.specs.Str.{bytes_eq, is_utf8}
 use Rattle.std.specs.Borrow.{Bor}
@@ -23,13 +24,14 @@ use Rattle.copy_csv.specs.Rows.{IsChangeOf, IsCopyHead, IsDeltaHead, IsRowOf}
 use Rattle.copy_csv.specs.declared.faults.FormFault.{FormFault}
 use Rattle.copy_csv.specs.declared.faults.FormFault.TheVariants as faults
 
--- The bytes behind a front.
+-- The bytes after a prefix, if they start with it.
 abbrev pub after : List ℕ → List ℕ → Option (List ℕ)
 after [] bytes = Some bytes
 after (x ∷ front) [] = None
 after (x ∷ front) (y ∷ bytes) = if y == x then after front bytes else None
 
--- The text of a string and the bytes behind it, from behind the opening quote. Each escape is the one that is printed.
+-- The text of a string, read from after its opening quote, and the bytes after it. Each escape is the one that is
+-- printed.
 unfoldable pub string_from : List ℕ → Option (List ℕ × List ℕ)
 string_from bytes =
     option_and_then (λ text. option_map (λ rest. (text, rest)) (after (escape text ++ 34 ∷ []) bytes))
@@ -46,59 +48,59 @@ escaped =
     ∷ 20 ∷ 21 ∷ 22 ∷ 23
     ∷ 24 ∷ 25 ∷ 26 ∷ 27 ∷ 28 ∷ 29 ∷ 30 ∷ 31 ∷ []
 
--- Each with its escape.
+-- Each of these bytes with its escape.
 unfoldable pub escapes : List (ℕ × List ℕ)
 escapes = map (λ byte. (byte, escape_byte byte)) escaped
 
--- An entry whose escape is lent.
+-- An entry whose escape is borrowed.
 abbrev pub read_escape : ℕ × Bor (List ℕ) → ℕ × List ℕ
 read_escape entry = (entry.0, entry.1.now)
 
--- No escape begins these bytes.
+-- The bytes don't start with an escape.
 pub record HasNoEscape (bytes : List ℕ) : Type 0 where
   pub each : (byte : ℕ) → is_escaped byte ≡ true → after (escape_byte byte) bytes ≡ None
 
--- A text isn't read exactly where nothing is to be read; where memory is wanting, nothing is said.
+-- `NotRead` says that there is nothing to be read. Out of memory says nothing.
 abbrev pub Fails : {Y : Type 0} → FormFault → Option Y → Type 0
 Fails faults.NotRead found = found ≡ None
 Fails faults.NoMemory found = ⊤
 
--- What a reader gives is what is to be read, as contracts see it, and it fails only so.
+-- A reader returns what is to be read, as contracts see it, and fails only as `Fails` allows.
 abbrev pub Gives : {X Y : Type 0} → (X → Y) → Result X FormFault → Option Y → Type 0
 Gives view (Ok x) found = found ≡ Some (view x)
 Gives view (Err fault) found = Fails fault found
 
 -- ---- a record
 
--- A text that may stand in a record: there is one, and it is UTF-8.
+-- A text that a record may have: it isn't empty, and it is UTF-8.
 abbrev pub kept : Text → Option Text
 kept text = if is_absent text then None else if is_utf8 text then Some text else None
 
--- The text of a field and the bytes behind it, from behind the opening quote.
+-- The text of a field, read from after its opening quote, and the bytes after it.
 unfoldable pub text_from : List ℕ → Option (Text × List ℕ)
 text_from bytes = option_and_then (λ read. option_map (λ text. (text, read.1)) (kept read.0))
     (string_from bytes)
 
--- What is read of a field: its text, whether a field stands before what follows, and the bytes that follow.
+-- What is read from a field: its text, whether a field precedes what follows, and the bytes that follow.
 pub record FieldRead : Type 0 where
   pub text : Text
   pub later : Bool
   pub rest : List ℕ
 
--- A field that is there, by what stands behind its lead.
+-- A field that is present, given what is read after its lead.
 abbrev pub present_field : Option (Text × List ℕ) → Option FieldRead
 present_field found = option_map (λ read. record { text = read.0; later = true; rest = read.1 }) found
 
--- A field by what stands behind its lead, and the empty text where its lead doesn't stand there.
+-- A field, given the bytes after its lead. Its text is empty if the lead doesn't come next.
 abbrev pub field_behind : Bool → List ℕ → Option (List ℕ) → Option FieldRead
 field_behind later bytes None = Some (record { text = []; later = later; rest = bytes })
 field_behind later bytes (Some rest) = present_field (text_from rest)
 
--- A field with this name: its text, or the empty text where the field doesn't stand there.
+-- A field with this name: its text, or the empty text if the field doesn't come next.
 unfoldable pub field_from : Text → Bool → List ℕ → Option FieldRead
 field_from name later bytes = field_behind later bytes (after (lead later name) bytes)
 
--- The texts of the fields with these names, and the bytes behind the brace that closes their object.
+-- The texts of the fields with these names, and the bytes after the brace that closes their object.
 unfoldable pub fields_from : List Text → Bool → List ℕ → Option (List Text × List ℕ)
 fields_from [] later bytes = option_map (λ rest. ([], rest)) (after (125 ∷ []) bytes)
 fields_from (name ∷ names) later bytes =
@@ -106,7 +108,7 @@ fields_from (name ∷ names) later bytes =
     (fields_from names field.later field.rest))
     (field_from name later bytes)
 
--- Where each field of a sheet, in order of place, stands in byte order of the names.
+-- For each field of a sheet, in order of place, its position in byte order of the names, counted from 1.
 abbrev pub json_ranks : Sheet → List ℕ
 json_ranks Sheet.Lei =
     25 ∷ 20 ∷ 21 ∷ 15 ∷ 13 ∷ 17 ∷ 14 ∷ 16 ∷ 10 ∷ 8 ∷ 12 ∷ 9 ∷ 11 ∷ 23 ∷ 22 ∷ 19 ∷ 1 ∷ 18 ∷ 3 ∷ 2 ∷ 24 ∷ 27 ∷ 28
@@ -114,44 +116,44 @@ json_ranks Sheet.Lei =
 json_ranks Sheet.Rr = 11 ∷ 9 ∷ 7 ∷ 8 ∷ 10 ∷ 6 ∷ 1 ∷ 2 ∷ 4 ∷ 3 ∷ 5 ∷ []
 json_ranks Sheet.Repex = 4 ∷ 1 ∷ 2 ∷ 3 ∷ []
 
--- The row of texts that stand in byte order of their names.
+-- The row of texts that are in byte order of their fields' names.
 unfoldable pub placed : Sheet → List Text → SheetRow
 placed sheet texts = row_of sheet (map (text_at texts) (json_ranks sheet))
 
--- The row of a record, and the bytes behind it.
+-- The row of a record, and the bytes after it.
 unfoldable pub record_from : Sheet → List ℕ → Option (SheetRow × List ℕ)
 record_from sheet bytes =
     option_and_then (λ rest. option_map (λ read. (placed sheet read.0, read.1))
     (fields_from (json_names sheet) false rest))
     (after (123 ∷ []) bytes)
 
--- The change with this action that a row was read for, if it may be one: of a row that is dropped only the key is
--- there.
+-- The change that a row was read for, if the row may be in one. The flag says that the row is put. The row of a dropped
+-- key has only the key.
 abbrev pub change_of : Bool → SheetRow → Option Change
 change_of true row = Some (Change.Put row)
 change_of false row = if is_key_alone row then Some (Change.Drop row) else None
 
--- A change whose record begins these bytes, and the bytes behind the brace that closes it.
+-- A change with whose record these bytes start, and the bytes after the brace that closes the change.
 abbrev pub changed_from : Sheet → Bool → List ℕ → Option (Change × List ℕ)
 changed_from sheet puts bytes =
     option_and_then (λ read. option_and_then
     (λ rest. option_map (λ change. (change, rest)) (change_of puts read.0)) (after (125 ∷ []) read.1))
     (record_from sheet bytes)
 
--- The same by what stands behind the begin of a change that puts a row, or else of one that drops a key.
+-- The same, given the bytes after the start of a change that puts a row, or else after that of one that drops a key.
 abbrev pub change_behind : Sheet → Option (List ℕ) → Option (List ℕ) → Option (Change × List ℕ)
 change_behind sheet (Some rest) others = changed_from sheet true rest
 change_behind sheet None (Some rest) = changed_from sheet false rest
 change_behind sheet None None = None
 
--- A change, and the bytes behind it.
+-- A change, and the bytes after it.
 unfoldable pub change_from : Sheet → List ℕ → Option (Change × List ℕ)
 change_from sheet bytes =
     change_behind sheet (after (before_record (codes "PUT") []) bytes) (after (before_record (codes "DROP") []) bytes)
 
 -- ---- the records of a file
 
--- So many items up to the end of the bytes, by what is read of one.
+-- This many items, up to the end of the bytes, given how one item is read.
 unfoldable pub items_from : {A : Type 0} → (List ℕ → Option (A × List ℕ)) → ℕ → Bool → List ℕ
     → Option (List A)
 items_from item zero later bytes = if bytes_eq bytes (93 ∷ 125 ∷ []) then Some [] else None
@@ -160,66 +162,66 @@ items_from item (suc n) later bytes =
     (λ read. option_map (λ others. read.0 ∷ others) (items_from item n true read.1)) (item rest))
     (after (comma_if later) bytes)
 
--- ---- the begin of a file
+-- ---- the start of a file
 
--- The number that digits write in decimal, below 2^64 and with no zero before it.
+-- The number whose decimal form these digits are. It is below 2^64, and no extra zero precedes it.
 unfoldable pub number_of : List ℕ → Option ℕ
 number_of digits =
     if nat_lt (digits_value 10 digits) (2 ^ 64) && bytes_eq (decimal (digits_value 10 digits)) digits then
     Some (digits_value 10 digits) else None
 
--- A number, and the bytes behind its digits.
+-- A number, and the bytes after its digits.
 unfoldable pub number_from : List ℕ → Option (ℕ × List ℕ)
 number_from bytes =
     let count = prefix_len is_ascii_digit bytes in
     option_map (λ number. (number, drop count bytes)) (number_of (take count bytes))
 
--- The moment that a text is the printed form of.
+-- The moment whose printed form a text is.
 abbrev pub printed_moment : Text → Option ℤ
 printed_moment text =
     if is_utf8 text then option_and_then
     (λ moment. if bytes_eq (moment_text moment) text then Some moment else None) (read_moment text)
     else None
 
--- A moment, from behind its opening quote, and the bytes behind it.
+-- A moment, read from after its opening quote, and the bytes after it.
 unfoldable pub moment_from : List ℕ → Option (ℤ × List ℕ)
 moment_from bytes = option_and_then (λ read. option_map (λ moment. (moment, read.1)) (printed_moment read.0))
     (string_from bytes)
 
--- What stands before the moment of a file.
+-- What precedes the moment of a file.
 abbrev pub date_begin : Text
 date_begin = 123 ∷ (quoted (codes "contentDate") ++ 58 ∷ 34 ∷ [])
 
--- What stands before the number of a member with this name.
+-- What precedes the number of a member with this name.
 abbrev pub number_begin : Text → Text
 number_begin name = 44 ∷ (quoted name ++ 58 ∷ [])
 
--- What stands before the records of a file.
+-- What precedes the records of a file.
 abbrev pub records_begin : Text
 records_begin = 44 ∷ (quoted (codes "records") ++ 58 ∷ 91 ∷ [])
 
--- The moment of a file, and the bytes behind it.
+-- The moment of a file, and the bytes after it.
 unfoldable pub date_from : List ℕ → Option (ℤ × List ℕ)
 date_from bytes = option_and_then moment_from (after date_begin bytes)
 
--- The number behind a front, and the bytes behind it.
+-- The number after a prefix, and the bytes after the number.
 abbrev pub number_behind : List ℕ → List ℕ → Option (ℕ × List ℕ)
 number_behind front bytes = option_and_then number_from (after front bytes)
 
--- The number is one of a publication.
+-- Whether a publication can have this number.
 abbrev pub is_publication : ℕ → Bool
 is_publication number = nat_le 1 number && nat_le number 1_000_000
 
--- The number of a publication behind a front, and the bytes behind it.
+-- The number of a publication after a prefix, and the bytes after the number.
 unfoldable pub publication_behind : List ℕ → List ℕ → Option (ℕ × List ℕ)
 publication_behind front bytes = option_and_then (λ read. if is_publication read.0 then Some read else None)
     (number_behind front bytes)
 
--- The number of a publication in a member with this name, and the bytes behind it.
+-- The number of a publication in a member with this name, and the bytes after it.
 abbrev pub publication_from : Text → List ℕ → Option (ℕ × List ℕ)
 publication_from name bytes = publication_behind (number_begin name) bytes
 
--- How many records a file has, and the bytes behind the bracket that opens their array.
+-- The number of records in a file, and the bytes after the bracket that opens their array.
 unfoldable pub count_from : List ℕ → Option (ℕ × List ℕ)
 count_from bytes =
     option_and_then (λ read. option_map (λ rest. (read.0, rest)) (after records_begin read.1))
@@ -253,11 +255,11 @@ delta_from sheet bytes =
     (publication_from (codes "fromPublication") date.1))
     (date_from bytes)
 
--- A text that was put behind the others.
+-- A text was appended to the others.
 pub record Added (old new : List Text) (text : Text) : Type 0 where
   pub is : new ≡ old ++ text ∷ []
 
--- A reader puts the text that is to be read behind the others, and gives what follows.
+-- A reader appends the text that is to be read, and returns what follows it.
 abbrev pub Adds : {X Y : Type 0} → (Text → X → Y) → List Text → List Text → Result X FormFault
     → Option Y → Type 0
 Adds view old new (Ok x) found = (text : Text) × (found ≡ Some (view text x)) × Added old new text
@@ -265,13 +267,13 @@ Adds view old new (Err fault) found = Fails fault found
 
 -- ---- what a reader promises
 
--- The bytes are the text of a copy with this head and these rows of a sheet. That their keys rise isn't asked here.
+-- The bytes are the text of a copy with this head and these rows of a sheet. The keys needn't rise here.
 pub record IsJsonCopy (sheet : Sheet) (bytes : List ℕ) (head : Head) (rows : List SheetRow) : Type 0 where
   pub text : bytes ≡ json_copy head rows
   pub begins : IsCopyHead head
   pub each : All (IsRowOf sheet) rows
 
--- The bytes are the text of a delta with this head and these changes of a sheet. That their keys rise isn't asked here.
+-- The bytes are the text of a delta with this head and these changes of a sheet. The keys needn't rise here.
 pub record IsJsonDelta (sheet : Sheet) (bytes : List ℕ) (head : Head) (changes : List Change) : Type 0 where
   pub text : bytes ≡ json_delta head changes
   pub begins : IsDeltaHead head

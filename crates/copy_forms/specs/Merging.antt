@@ -1,4 +1,4 @@
--- Rows and changes, walked side by side in the order of their keys.
+-- Rows and changes, merged in the order of their keys.
 use Rattle.std.specs.Prelude.{◌≡◌, ◌-◌, ℕ, Bool, List, [], ◌∷◌, ◌++◌, drop, flat_map, if◌then◌else◌, take}
 use Rattle.std.specs.FinMap.Entries.{by_order}
 use Rattle.lei_records.specs.Tables.{key_cmp}
@@ -11,8 +11,8 @@ abbrev pub put_by : Change → List SheetRow
 put_by (Change.Put row) = row ∷ []
 put_by (Change.Drop row) = []
 
--- A row among changes: what those with a lesser key put stands before it, and what one with its own key puts stands in
--- its place. The others are left to the rows after it.
+-- A row among changes. What changes with lesser keys put comes before the row. What a change with the row's key puts
+-- replaces the row. The other changes are left to the rows after it.
 abbrev pub placed : SheetRow → (List Change → List SheetRow) → List Change → List SheetRow
 placed row others [] = row ∷ others []
 placed row others (change ∷ changes) =
@@ -21,26 +21,27 @@ placed row others (change ∷ changes) =
     (put_by change ++ others changes)
     (row ∷ others (change ∷ changes))
 
--- Rows after changes: each row among those of the changes that those before it left.
+-- Rows merged with changes: each row is placed among the changes that are left by the rows before it.
 abbrev pub merged : List SheetRow → List Change → List SheetRow
 merged [] changes = flat_map put_by changes
 merged (row ∷ rows) changes = placed row (merged rows) changes
 
--- What the changes from one place up to another one put.
+-- What the changes from the index `at` up to, but without, the index `next` put.
 abbrev pub put_between : List Change → ℕ → ℕ → List SheetRow
 put_between changes at next = flat_map put_by (take (next - at) (drop at changes))
 
--- A row stands among the changes from `at` on, and those from `next` on are left to the rows after it. Whatever these
--- rows are, it and they make of the changes what those before `next` put, the row if it stays, and what they make of
--- the changes that are left.
+-- A row is placed among the changes from `at` on, and those from `next` on are left to the rows after it. Whatever
+-- these rows are, merging the row and them with the changes gives three parts: what the changes before `next` put, the
+-- row if it stays, and the rows after it, merged with the changes that are left.
 abbrev pub StandsAmong : List Change → SheetRow → ℕ → ℕ → Bool → Type 0
 StandsAmong changes row at next stays =
     (more : List SheetRow)
     → put_between changes at next ++ ((if stays then row ∷ [] else []) ++ merged more (drop next changes))
     ≡ merged (row ∷ more) (drop at changes)
 
--- A row was passed: whatever rows follow it, what was put by now, with what they and the changes from `next` on make,
--- is what was put before, with what the row, they and the changes from `at` on make.
+-- A row was passed, whatever rows follow it. Merge the following rows with the changes from `next` on, and put the
+-- result after the new output. That is the same as the merge of the row and those rows with the changes from `at` on,
+-- put after the old output.
 abbrev pub PassesRow : {X : Type 0} → (SheetRow → List X) → List Change → SheetRow → ℕ → List X → ℕ
     → List X → Type 0
 PassesRow print changes row at old next new =

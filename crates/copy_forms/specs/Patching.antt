@@ -1,4 +1,4 @@
--- A copy patched by a delta: this project's profile.
+-- Patching a copy by a delta: this project's profile.
 use Rattle.std.specs.Prelude.{◌≡◌, Bool, List, true, [], ◌∷◌, map}
 use Rattle.std.specs.FinMap.{FinMap, from_entries, insert, remove, values}
 use Rattle.lei_code.specs.Texts.{Text}
@@ -10,7 +10,7 @@ use Rattle.register_words.specs.declared.sheets.Sheet.{Sheet}
 use Rattle.copy_forms.specs.Files.{IsCopy, IsDelta, copy}
 use Rattle.copy_csv.specs.Sheets.{SheetRow, key}
 
--- Rows under their keys, in the order of these.
+-- Rows under their keys, in the order of the keys.
 abbrev pub Keyed : Type 0
 Keyed = FinMap key_cmp SheetRow
 
@@ -18,27 +18,27 @@ Keyed = FinMap key_cmp SheetRow
 abbrev pub keyed : List SheetRow → Keyed
 keyed rows = from_entries (map (λ row. (key row, row)) rows)
 
--- A change puts its row in the place of the row of its key or as a row of its own, or takes out the row of its key
--- where there is one.
+-- A change puts its row in the place of the row under its key, or as a new row. Or it removes the row under its key, if
+-- there is one.
 abbrev pub changed : Keyed → Change → Keyed
 changed rows (Change.Put row) = insert rows (key row) row
 changed rows (Change.Drop row) = remove rows (key row)
 
--- All changes in their order.
+-- The rows after all changes, applied in order.
 abbrev pub all_changed : Keyed → List Change → Keyed
 all_changed rows [] = rows
 all_changed rows (change ∷ changes) = all_changed (changed rows change) changes
 
--- The rows of a copy after a delta, in the order of their keys.
+-- The rows of a copy after a delta was applied, in the order of their keys.
 abbrev pub patched : List SheetRow → List Change → List SheetRow
 patched rows changes = values (all_changed (keyed rows) changes)
 
--- The head of a copy after a delta: the moment and the number of the delta's publication.
+-- The head of a copy after a delta was applied: the moment and the number of the delta's publication.
 abbrev pub patched_head : Head → Head
 patched_head head = record { moment = head.moment; publication = head.publication; from = 0 }
 
--- The bytes are the copy after the delta: that of the patched rows with the delta's head, in the delta's width. A wide
--- copy has no narrow delta.
+-- The bytes are the copy after the delta was applied: that of the patched rows with the delta's head, in the delta's
+-- width. A wide copy has no narrow delta.
 pub record IsPatched (base delta bytes : Text) (sheet : Sheet) (form : Form) : Type 0 where
   pub base_head : Head
   pub base_wide : Bool

@@ -1,4 +1,4 @@
--- Trails: publications one behind the other, with the keys that were touched between them.
+-- Trails: publications in order, with the keys that were touched between them.
 use Rattle.std.specs.Prelude.{◌≡◌, ◌≤◌, ◌-◌, ℕ, ℤ, List, [], ◌∷◌, ◌++◌, map, take, drop, length, flat_map, ◌&&◌, Bool, false, true, Option, None, Some, ⊤, IsTrue, codes, pos, replicate}
 use Rattle.std.specs.FinMap.{from_entries, get, keys}
 use Rattle.std.specs.List.{All, list_all, list_any, slice_get}
@@ -16,15 +16,15 @@ use Rattle.copy_forms.specs.Patching.{IsPatched, keyed}
 use Rattle.copy_csv.specs.Rows.{AreRows}
 use Rattle.copy_csv.specs.Sheets.{SheetRow, fits, key_len, row_of, width}
 
--- A publication: its moment, whether its files are wide where they may be, its rows of each sheet, and the keys that
--- were touched since the one before.
+-- A publication: its moment, whether its files are wide if they may be, and its rows of each sheet. It also has the
+-- keys that were touched since the publication before it.
 pub record Publication : Type 0 where
   pub moment : ℤ
   pub wide : Bool
   pub rows : Sheet → List SheetRow
   pub touched : Sheet → List KeyTexts
 
--- Publications one behind the other: the first has the number 1.
+-- Publications in order; the first one has the number 1.
 abbrev pub Trail : Type 0
 Trail = List Publication
 
@@ -34,23 +34,23 @@ Trail = List Publication
 abbrev pub row_under : List SheetRow → KeyTexts → Option SheetRow
 row_under rows k = get (keyed rows) k
 
--- The key is one of these.
+-- Whether the key is one of these.
 abbrev pub is_among : KeyTexts → List KeyTexts → Bool
 is_among k keys = list_any (eq_by_cmp key_cmp k) keys
 
--- The keys in their order, each once.
+-- The keys in order, each once.
 abbrev pub in_order : List KeyTexts → List KeyTexts
 in_order touched = keys (from_entries {R = key_cmp} (map (λ k. (k, k)) touched))
 
--- A key of a sheet: so many texts as its rows have in their keys, each UTF-8.
+-- A key of a sheet: as many texts as the keys of its rows have, each UTF-8.
 pub record IsKeyOf (sheet : Sheet) (k : KeyTexts) : Type 0 where
   pub full : length k ≡ key_len sheet
   pub utf8 : IsTrue (list_all is_utf8 k)
 
 -- ---- sound trails
 
--- A publication follows another one: its rows are rows of the sheet whose keys rise, and a key that was not touched has
--- the same row as before, or none as before. Behind a wide one it is wide, and where it isn't, its rows of `lei` have
+-- A publication follows another one. Its rows are rows of the sheet whose keys rise. A key that wasn't touched has the
+-- same row as before, or still has none. It is wide if the one before it is. If it isn't wide, its rows of `lei` have
 -- nothing for the columns that only a wide file has.
 pub record IsNext (before next : Publication) : Type 0 where
   pub moment_is : IsMoment next.moment
@@ -66,11 +66,11 @@ abbrev pub FollowOn : Publication → Trail → Type 0
 FollowOn before [] = ⊤
 FollowOn before (next ∷ later) = IsNext before next × FollowOn next later
 
--- What stands before the first publication: a narrow one with no rows. Its moment says nothing.
+-- What precedes the first publication: a narrow one with no rows. Its moment has no meaning.
 abbrev pub nothing_published : Publication
 nothing_published = record { moment = pos 0; wide = false; rows = λ sheet. []; touched = λ sheet. [] }
 
--- A trail is sound where each publication follows the one before it.
+-- A trail is sound if each publication follows the one before it.
 abbrev pub IsSound : Trail → Type 0
 IsSound trail = FollowOn nothing_published trail
 
@@ -80,7 +80,7 @@ IsSound trail = FollowOn nothing_published trail
 abbrev pub copy_head : ℕ → Publication → Head
 copy_head number publication = record { moment = publication.moment; publication = number; from = 0 }
 
--- The head of the delta to it from another one.
+-- The head of the delta to a publication from another one.
 abbrev pub delta_head : ℕ → ℕ → Publication → Head
 delta_head from number publication = record { moment = publication.moment; publication = number; from = from }
 
@@ -94,16 +94,16 @@ copy_of number publication sheet form =
     copy sheet form (is_wide_in publication sheet form) (copy_head number publication)
     (publication.rows sheet)
 
--- The row of a key that is dropped: the key, and no other texts.
+-- The row of a dropped key: the key, followed by empty texts.
 abbrev pub dropped_row : Sheet → KeyTexts → SheetRow
 dropped_row sheet k = row_of sheet (k ++ replicate (width sheet - key_len sheet) (codes ""))
 
--- What a delta has of a key whose row now is this.
+-- What a delta says about a key, given the row that the key has now.
 abbrev pub change_to : Sheet → KeyTexts → Option SheetRow → Change
 change_to sheet k (Some row) = Change.Put row
 change_to sheet k None = Change.Drop (dropped_row sheet k)
 
--- The same of a key by the rows that are there now.
+-- The same, given all the rows that there are now.
 abbrev pub change_of : Sheet → List SheetRow → KeyTexts → Change
 change_of sheet rows k = change_to sheet k (row_under rows k)
 
@@ -111,12 +111,12 @@ change_of sheet rows k = change_to sheet k (row_under rows k)
 abbrev pub touched_in : Sheet → List Publication → List KeyTexts
 touched_in sheet later = flat_map (λ publication. publication.touched sheet) later
 
--- The publications of a trail behind the one with a number, up to another one.
+-- The publications of a trail after the one with the number `from`, up to the one with the number `number`.
 abbrev pub between : Trail → ℕ → ℕ → List Publication
 between trail from number = take (number - from) (drop from trail)
 
--- The changes of the delta between two publications: each key that was touched behind the first, once and in order,
--- with its row in the other.
+-- The changes of the delta between two publications: each key that was touched after the first one, once and in order,
+-- with its row in the second one.
 abbrev pub changes_between : Trail → ℕ → ℕ → Publication → Sheet → List Change
 changes_between trail from number publication sheet =
     map (change_of sheet (publication.rows sheet)) (in_order (touched_in sheet (between trail from number)))
@@ -131,8 +131,8 @@ delta_between trail from number publication sheet form =
 abbrev pub publication_at : Trail → ℕ → Option Publication
 publication_at trail number = slice_get trail (number - 1)
 
--- In the trail the copy of each publication, patched by the delta from there to a later one or to itself, is the copy
--- of that one, byte for byte.
+-- In the trail, take the copy of a publication and the delta from it to the same or a later one. The copy patched by
+-- the delta is the copy of that one, byte for byte.
 abbrev pub DeltasLeadOn : Trail → Type 0
 DeltasLeadOn trail =
     (p q : ℕ) (base latest : Publication) → 1 ≤ p → p ≤ q → publication_at trail p ≡ Some base
@@ -141,8 +141,8 @@ DeltasLeadOn trail =
     → IsPatched (copy_of p base sheet form) (delta_between trail p q latest sheet form)
     (copy_of q latest sheet form) sheet form
 
--- In the trail the copy of each publication, patched by a delta that goes from there or from an earlier one and leads
--- to a later one or to itself, is the copy of the one that the delta leads to, byte for byte.
+-- In the trail, take the copy of a publication, and a delta from the same or an earlier one to the same or a later one.
+-- The copy patched by the delta is the copy of the one that the delta leads to, byte for byte.
 abbrev pub DeltasLeadOnFromBetween : Trail → Type 0
 DeltasLeadOnFromBetween trail =
     (p q r : ℕ) (copied latest : Publication) → 1 ≤ p → p ≤ q → q ≤ r

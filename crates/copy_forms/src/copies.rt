@@ -1,4 +1,4 @@
-//! Copies and deltas in both forms: printed, and read back where they are printed so.
+//! Copies and deltas in both forms: printing, and reading back exactly what is printed.
 ghost use Rattle.std.specs.Prelude.{◌≡◌, Bool, List as Items, map, IfOk, IsErrOf};
 ghost use Rattle.copy_csv.specs.declared.faults.FormFault.{FormFault};
 ghost use Rattle.copy_csv.specs.declared.heads.Head.{Head as DeclaredHead};
@@ -20,8 +20,9 @@ use copy_csv::{
 use lei_outside::{Bytes, List, NoMemory};
 use std::alloc::Global;
 
-/// Reads a copy: Ok exactly where the bytes are the text of some head and some rows of the sheet whose keys rise, and
-/// of UTF-8, in one of the widths that there are. `NotRead` says that they are none.
+/// Reads a copy. Unless memory runs out, it succeeds if and only if the bytes are the text of some head and rows of the
+/// sheet. The width must be one that the sheet has, the rows must be of UTF-8, and their keys must rise. `NotRead` says
+/// that the bytes aren't such a text.
 pub fn read_copy(
     alloc: Global,
     bytes: &[u8],
@@ -70,9 +71,9 @@ fn read_copy_in_json(alloc: Global, bytes: &[u8], sheet: Sheet) -> Result<CopyRe
     }
 }
 
-/// Reads a delta: Ok exactly where the bytes are the text of some head and some changes of the sheet whose keys rise,
-/// each of UTF-8, and of a key that is dropped the key alone, in one of the widths that there are. `NotRead` says that
-/// they are none.
+/// Reads a delta. Unless memory runs out, it succeeds if and only if the bytes are the text of some head and changes of
+/// the sheet. The width must be one that the sheet has, the changes must be of UTF-8, and their keys must rise. The row
+/// of a dropped key must have only the key. `NotRead` says that the bytes aren't such a text.
 pub fn read_delta(
     alloc: Global,
     bytes: &[u8],
@@ -121,7 +122,7 @@ fn read_delta_in_json(alloc: Global, bytes: &[u8], sheet: Sheet) -> Result<Delta
     }
 }
 
-/// The text of a copy whose rows are rendered, in this width and under this head. In CSV the head isn't printed. The
+/// The text of a copy with these rendered rows, in this width and with this head. In CSV the head isn't printed. The
 /// width matters only in CSV of `lei`.
 pub fn copy_text(
     alloc: Global,
@@ -159,8 +160,8 @@ fn copy_in_json(alloc: Global, head: &Head, rows: &[RowTexts]) -> Result<Bytes, 
     json_copy_text(alloc, head, rows)
 }
 
-/// The text of a delta with these changes, each rendered of one that a delta of the sheet has, in this width and under
-/// this head. The width matters only in CSV of `lei`.
+/// The text of a delta with these changes, in this width and with this head. Each change must be rendered from one that
+/// a delta of the sheet may have. The width matters only in CSV of `lei`.
 pub fn delta_text(
     alloc: Global,
     sheet: Sheet,

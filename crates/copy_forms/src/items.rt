@@ -1,4 +1,4 @@
-//! Items of the register, as the records of their rows.
+//! Items of the register as the JSON records of their rows.
 ghost use Rattle.std.specs.Prelude.{◌≡◌, ◌≤◌, ◌++◌, IfOk, OnOk, length};
 ghost use Rattle.copy_forms.specs.Items.{item_text};
 ghost use Rattle.copy_forms.specs.Json.{field_at, json_record};
@@ -14,7 +14,7 @@ use lei_outside::{Bytes, NoMemory};
 use lei_records::{FieldTexts, Item};
 use std::alloc::Global;
 
-/// The record of an item's row: the fields that are present, with names in byte order.
+/// The JSON record of an item's row: the fields that are present, with their names in byte order.
 pub fn item_text(alloc: Global, item: &Item) -> Result<Bytes, NoMemory>
     ensures { IfOk result (λ text. text ≡ item_text item.now) }
 {
@@ -25,7 +25,7 @@ pub fn item_text(alloc: Global, item: &Item) -> Result<Bytes, NoMemory>
     }
 }
 
-/// The record of the row that has these texts in order of place.
+/// The JSON record of the row that has these texts in order of place.
 pub fn fields_text(alloc: Global, sheet: Sheet, texts: &FieldTexts) -> Result<Bytes, NoMemory>
     requires { length texts.now ≡ Sheets.width sheet }
     ensures { IfOk result (λ text. text ≡ json_record (row_of sheet texts.now)) }
@@ -40,8 +40,8 @@ pub fn fields_text(alloc: Global, sheet: Sheet, texts: &FieldTexts) -> Result<By
     Ok(Bytes::from(out.into_inner()))
 }
 
-// How many bytes the record takes where no text has escapes, and one to spare, which the writer asks for: of each field
-// that is present the name and the text, four quotes, a colon and a comma.
+// How many bytes the record takes if no text has escapes, and one to spare, because the writer asks for it. Each field
+// that is present takes its name and its text, four quotes, a colon and a comma.
 fn record_room(sheet: Sheet, texts: &FieldTexts) -> usize
     requires { length texts.now ≡ Sheets.width sheet }
 {

@@ -1,4 +1,4 @@
-//! Files of JSON, read back where they stand as they are printed.
+//! Reading files in JSON, exactly in the form in which they are printed.
 ghost use Rattle.std.specs.Prelude.{◌≡◌, ◌≤◌, ◌<◌, ◌+◌, ◌-◌, ◌^◌, List, ℕ, Bool, true, false, [], ◌∷◌, ◌++◌, length, map, option_map, Some, None, codes, IfOk, IsErrOf};
 ghost use Rattle.serde_json.specs.Written;
 ghost use Rattle.copy_forms.specs.Json.{json_names};
@@ -17,7 +17,7 @@ use copy_csv::{Change, FormFault, Head, Row, Sheet};
 use lei_outside::Bytes;
 use std::alloc::Global;
 
-/// The head and the rows of a copy. That the keys rise isn't asked.
+/// The head and the rows of a copy. It doesn't check that the keys rise.
 pub fn read_json_copy(
     alloc: Global,
     bytes: &[u8],
@@ -31,14 +31,14 @@ pub fn read_json_copy(
     copy_from(alloc, sheet, bytes)
 }
 
-// How many bytes these are. That a `usize` has their number is why a count of records fits.
+// The number of these bytes. A `usize` holds it, so a number of records fits, too.
 fn byte_count(bytes: &[u8]) -> usize
     ensures { result ≡ length bytes.now }
 {
     bytes.len()
 }
 
-// The head and the rows that are read of a copy.
+// The head and the rows that are read from a copy.
 #[tactic(auto, unfolding(crate::specs::JsonReading::copy_from))]
 fn copy_from(alloc: Global, sheet: Sheet, bytes: &[u8]) -> Result<(Head, Vec<Row>), FormFault>
     ensures { Gives (λ read. (read.0, read.1.items)) result (spec.copy_from sheet bytes.now) }
@@ -63,7 +63,7 @@ fn copy_from(alloc: Global, sheet: Sheet, bytes: &[u8]) -> Result<(Head, Vec<Row
     Ok((head, rows))
 }
 
-// So many rows up to the end of the bytes.
+// This many rows, up to the end of the bytes.
 fn rows_from(
     alloc: Global,
     sheet: Sheet,
@@ -91,7 +91,7 @@ fn rows_from(
     }
 }
 
-// The bytes behind the comma of an item, if another stands before it.
+// The bytes of an item: those after a comma, if another item precedes it.
 fn item_place(bytes: &[u8], later: bool) -> Option<&[u8]>
     ensures { option_map (λ rest. rest.now) result ≡ spec.after (Written.comma_if later) bytes.now }
 {
@@ -101,7 +101,7 @@ fn item_place(bytes: &[u8], later: bool) -> Option<&[u8]>
     Some(bytes)
 }
 
-/// The head and the changes of a delta. That the keys rise isn't asked.
+/// The head and the changes of a delta. It doesn't check that the keys rise.
 pub fn read_json_delta(
     alloc: Global,
     bytes: &[u8],
@@ -115,7 +115,7 @@ pub fn read_json_delta(
     delta_from(alloc, sheet, bytes)
 }
 
-// The head and the changes that are read of a delta.
+// The head and the changes that are read from a delta.
 #[tactic(auto, unfolding(crate::specs::JsonReading::delta_from))]
 fn delta_from(alloc: Global, sheet: Sheet, bytes: &[u8]) -> Result<(Head, Vec<Change>), FormFault>
     ensures { Gives (λ read. (read.0, read.1.items)) result (spec.delta_from sheet bytes.now) }
@@ -143,7 +143,7 @@ fn delta_from(alloc: Global, sheet: Sheet, bytes: &[u8]) -> Result<(Head, Vec<Ch
     Ok((head, changes))
 }
 
-// So many changes up to the end of the bytes.
+// This many changes, up to the end of the bytes.
 fn changes_from(
     alloc: Global,
     sheet: Sheet,
@@ -172,7 +172,7 @@ fn changes_from(
     }
 }
 
-// A change, and the bytes behind it.
+// A change, and the bytes after it.
 #[tactic(auto, unfolding(crate::specs::JsonReading::change_from, json::specs::Print::escape_byte))]
 fn change_from<'a>(
     alloc: Global,
@@ -192,7 +192,7 @@ fn change_from<'a>(
     }
 }
 
-// A change by its record and the brace behind it.
+// A change, read from its record and the brace after that, and the bytes after it.
 fn changed_from<'a>(
     alloc: Global,
     sheet: Sheet,
@@ -213,7 +213,7 @@ fn changed_from<'a>(
     }
 }
 
-// The change that a row was read for.
+// The change that a row was read for, if the row may be in one: that of a dropped key has only the key.
 fn change_of(puts: bool, row: Row) -> Option<Change>
     ensures { result ≡ spec.change_of puts row }
 {

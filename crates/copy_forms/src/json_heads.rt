@@ -1,4 +1,4 @@
-//! The begins of files in JSON, read back where they stand as they are printed.
+//! Reading the starts of files in JSON, exactly in the form in which they are printed.
 ghost use Rattle.std.specs.Prelude.{◌≡◌, ◌≤◌, ◌<◌, ◌+◌, ◌==◌, List, ℕ, Bool, true, false, [], ◌∷◌, ◌++◌, length, take, slice_index, option_map, Some, None, MatchOption, decimal, codes, IsTrue};
 ghost use Rattle.std.specs.Char.{is_ascii_digit};
 ghost use Rattle.std.specs.List.{prefix_len};
@@ -12,7 +12,7 @@ use lei_shapes::Moment;
 use std::alloc::Global;
 use std::str;
 
-/// The moment of a file, and the bytes behind it.
+/// The moment of a file, and the bytes after it.
 #[tactic(auto, unfolding(crate::specs::JsonReading::date_from, crate::specs::JsonReading::moment_from, json::specs::Print::escape_byte))]
 pub fn date_from<'a>(alloc: Global, bytes: &'a [u8]) -> Result<(Moment, &'a [u8]), FormFault>
     ensures { Gives (λ read. (read.0, read.1.now)) result (spec.date_from bytes.now) }
@@ -27,7 +27,7 @@ pub fn date_from<'a>(alloc: Global, bytes: &'a [u8]) -> Result<(Moment, &'a [u8]
     }
 }
 
-// The moment that a text is the printed form of.
+// The moment whose printed form a text is.
 fn printed_moment(text: &[u8]) -> Option<Moment>
     ensures { result ≡ spec.printed_moment text.now }
 {
@@ -42,7 +42,7 @@ fn printed_moment(text: &[u8]) -> Option<Moment>
     }
 }
 
-// How many digits stand first.
+// How many digits the bytes start with.
 fn digit_count(bytes: &[u8]) -> usize
     ensures within { result ≤ length bytes.now }
     ensures before { (k : ℕ) → k < result → is_ascii_digit (slice_index bytes.now k) ≡ true }
@@ -56,7 +56,7 @@ fn digit_count(bytes: &[u8]) -> usize
     bytes.len()
 }
 
-// The number that digits write in decimal.
+// The number whose decimal form these digits are.
 fn number_of(digits: &[u8]) -> Option<u64>
     ensures { result ≡ number_of digits.now }
 {
@@ -75,7 +75,7 @@ fn number_of(digits: &[u8]) -> Option<u64>
     }
 }
 
-// A number, and the bytes behind its digits.
+// The number that comes first, and the bytes after its digits.
 fn number_from(bytes: &[u8]) -> Option<(u64, &[u8])>
     ensures { option_map (λ read. (read.0, read.1.now)) result ≡ spec.number_from bytes.now }
 {
@@ -86,7 +86,7 @@ fn number_from(bytes: &[u8]) -> Option<(u64, &[u8])>
     }
 }
 
-// The number of a publication behind a front, and the bytes behind it.
+// The number of a publication after a prefix, and the bytes after the number.
 #[tactic(auto, unfolding(crate::specs::JsonReading::publication_behind))]
 fn publication_behind<'a>(bytes: &'a [u8], front: &[u8]) -> Option<(u32, &'a [u8])>
     ensures { option_map (λ read. (read.0, read.1.now)) result ≡ spec.publication_behind front.now bytes.now }
@@ -101,7 +101,7 @@ fn publication_behind<'a>(bytes: &'a [u8], front: &[u8]) -> Option<(u32, &'a [u8
     }
 }
 
-// The number behind a front, and the bytes behind it.
+// The number after a prefix, and the bytes after the number.
 fn number_behind<'a>(bytes: &'a [u8], front: &[u8]) -> Option<(u64, &'a [u8])>
     ensures { option_map (λ read. (read.0, read.1.now)) result ≡ spec.number_behind front.now bytes.now }
 {
@@ -111,7 +111,7 @@ fn number_behind<'a>(bytes: &'a [u8], front: &[u8]) -> Option<(u64, &'a [u8])>
     }
 }
 
-/// The number of a publication, and the bytes behind it.
+/// The number of a file's publication, and the bytes after it.
 #[tactic(auto, unfolding(json::specs::Print::escape_byte))]
 pub fn publication_from(bytes: &[u8]) -> Option<(u32, &[u8])>
     ensures { option_map (λ read. (read.0, read.1.now)) result
@@ -120,7 +120,7 @@ pub fn publication_from(bytes: &[u8]) -> Option<(u32, &[u8])>
     publication_behind(bytes, b",\"publication\":")
 }
 
-/// The number of the publication that a delta goes from, and the bytes behind it.
+/// The number of the publication that a delta starts from, and the bytes after it.
 #[tactic(auto, unfolding(json::specs::Print::escape_byte))]
 pub fn base_from(bytes: &[u8]) -> Option<(u32, &[u8])>
     ensures { option_map (λ read. (read.0, read.1.now)) result
@@ -129,7 +129,7 @@ pub fn base_from(bytes: &[u8]) -> Option<(u32, &[u8])>
     publication_behind(bytes, b",\"fromPublication\":")
 }
 
-/// How many records a file has, and the bytes behind the bracket that opens their array.
+/// The number of records in a file, and the bytes after the bracket that opens their array.
 #[tactic(auto, unfolding(crate::specs::JsonReading::count_from, json::specs::Print::escape_byte))]
 pub fn count_from(bytes: &[u8]) -> Option<(u64, &[u8])>
     ensures { option_map (λ read. (read.0, read.1.now)) result ≡ spec.count_from bytes.now }

@@ -1,4 +1,4 @@
-//! The records of JSON, read back where they stand as they are printed.
+//! Reading records of JSON, exactly in the form in which they are printed.
 ghost use Rattle.std.specs.Prelude.{◌≡◌, ◌≤◌, ◌++◌, ◌∷◌, List, ℕ, Bool, true, false, [], length, map, IfOk, OnOk, Some};
 ghost use Rattle.copy_forms.specs.Json.{json_names};
 ghost use Rattle.copy_forms.specs.JsonTexts;
@@ -15,7 +15,7 @@ use lei_outside::{Bytes, NoMemory};
 use std::alloc::Global;
 use std::str;
 
-// Where each field of a sheet, in order of place, stands in byte order of the names.
+// For each field of a sheet, in order of place, its position in byte order of the names, counted from 1.
 const LEI_RANKS: [u8; 32] = [
     25, 20, 21, 15, 13, 17, 14, 16, 10, 8, 12, 9, 11, 23, 22, 19, 1, 18, 3, 2, 24, 27, 28, 31, 30,
     29, 32, 26, 7, 4, 5, 6,
@@ -35,7 +35,7 @@ fn ranks(sheet: Sheet) -> &'static [u8]
     }
 }
 
-/// What stands before the texts of a sheet's fields, in byte order of their names and each with its comma.
+/// What precedes the texts of a sheet's fields, in byte order of their names and each with its comma.
 pub fn leads(alloc: Global, sheet: Sheet) -> Result<Vec<Bytes>, NoMemory>
     ensures { IfOk result (λ leads. leads.items ≡ map (JsonTexts.lead true) (json_names sheet)) }
 {
@@ -58,7 +58,7 @@ fn lead(alloc: Global, name: &str) -> Result<Bytes, NoMemory>
     Ok(Bytes::from(out))
 }
 
-// Puts a text behind the others, where it may stand in a record.
+// Appends a text that a record may have: it isn't empty, and it is UTF-8.
 fn put_text(texts: &mut Texts, text: &[u8]) -> Result<(), FormFault>
     ensures { Adds (λ kept _. kept) texts.old texts.new result (kept text.now) }
 {
@@ -74,7 +74,7 @@ fn put_text(texts: &mut Texts, text: &[u8]) -> Result<(), FormFault>
     }
 }
 
-// Puts the text of a string behind the others, from behind its opening quote, and gives the bytes behind it.
+// Appends the text of a string, read from after its opening quote, and returns the bytes after the string.
 fn text_from<'a>(alloc: Global, texts: &mut Texts, bytes: &'a [u8]) -> Result<&'a [u8], FormFault>
     ensures { Adds (λ text rest. (text, rest.now)) texts.old texts.new result (spec.text_from bytes.now) }
 {
@@ -88,8 +88,8 @@ fn text_from<'a>(alloc: Global, texts: &mut Texts, bytes: &'a [u8]) -> Result<&'
     Ok(rest)
 }
 
-// Puts the text of a field behind the others, the empty text where its lead doesn't stand there. It gives whether a
-// field stands before the bytes that follow, and these.
+// Appends the text of a field, or the empty text if the field's lead doesn't come next. Returns whether a field
+// precedes the bytes that follow, and these bytes.
 fn field_from<'a>(
     alloc: Global,
     texts: &mut Texts,
@@ -113,7 +113,7 @@ fn field_from<'a>(
     }
 }
 
-// The texts of a record's fields in byte order of their names, from behind its opening brace, and the bytes behind it.
+// A record's texts in byte order of the field names, read from after its opening brace, and the bytes after it.
 fn fields_from<'a>(
     alloc: Global,
     sheet: Sheet,
@@ -138,7 +138,7 @@ fn fields_from<'a>(
     }
 }
 
-// The lead without its comma where no field stands before.
+// The lead, without its comma if no field precedes it.
 fn own_lead(lead: &Bytes, later: bool) -> &[u8]
     ensures { (name : List ℕ) → lead.now ≡ JsonTexts.lead true name → result.now ≡ JsonTexts.lead later name }
 {
@@ -152,7 +152,7 @@ fn own_lead(lead: &Bytes, later: bool) -> &[u8]
     }
 }
 
-// The row of texts that stand in byte order of their names.
+// The row of texts that are in byte order of their fields' names.
 #[tactic(auto, unfolding(crate::specs::JsonReading::placed))]
 fn placed(alloc: Global, sheet: Sheet, texts: &Texts) -> Result<Row, NoMemory>
     requires { length texts.now ≡ Sheets.width sheet }
@@ -165,7 +165,7 @@ fn placed(alloc: Global, sheet: Sheet, texts: &Texts) -> Result<Row, NoMemory>
     Ok(Row::of(sheet, row))
 }
 
-/// The row of a record, and the bytes behind it. The leads are those of the sheet.
+/// The row of a record, and the bytes after the record. The leads must be those of the sheet.
 #[tactic(auto, unfolding(crate::specs::JsonReading::record_from))]
 pub fn record_from<'a>(
     alloc: Global,

@@ -1,4 +1,4 @@
-//! The strings of JSON, read back where they stand as they are printed.
+//! Reading strings of JSON, exactly in the form in which they are printed.
 ghost use Rattle.std.specs.Prelude.{◌≡◌, ◌<◌, ◌≤◌, ◌++◌, ℕ, List, true, false, length, slice_index, map, option_map, MatchOption};
 ghost use Rattle.json.specs.Print.{escape_byte};
 ghost use Rattle.copy_forms.specs.JsonReading as spec;
@@ -7,7 +7,7 @@ ghost use Rattle.copy_forms.specs.JsonReading.{Gives, escapes, is_escaped, strin
 use copy_csv::FormFault;
 use std::alloc::Global;
 
-/// The bytes behind a front, where they begin with it.
+/// The bytes after a prefix, if they start with it.
 pub fn after<'a>(bytes: &'a [u8], front: &[u8]) -> Option<&'a [u8]>
     ensures { option_map (λ rest. rest.now) result ≡ spec.after front.now bytes.now }
 {
@@ -17,7 +17,7 @@ pub fn after<'a>(bytes: &'a [u8], front: &[u8]) -> Option<&'a [u8]>
     }
 }
 
-// The bytes that are printed as an escape, each with it.
+// The bytes that are printed as escapes, each with its escape.
 const ESCAPES: [(u8, &str); 34] = [
     (b'"', "\\\""),
     (b'\\', "\\\\"),
@@ -61,7 +61,7 @@ fn escape_table() -> &'static [(u8, &'static str)]
     &ESCAPES
 }
 
-// The byte whose escape stands first, and the bytes behind it.
+// The byte whose escape comes first, and the bytes after the escape.
 fn escape_from(bytes: &[u8]) -> Option<(u8, &[u8])>
     ensures { MatchOption result (spec.HasNoEscape bytes.now)
         (λ found. bytes.now ≡ escape_byte found.0 ++ found.1.now) }
@@ -74,7 +74,7 @@ fn escape_from(bytes: &[u8]) -> Option<(u8, &[u8])>
     None
 }
 
-/// How many bytes stand before the first that is the end of a string or is printed as an escape.
+/// How many bytes precede the first one that ends a string or is printed as an escape.
 pub fn plain_len(bytes: &[u8]) -> usize
     ensures within { result ≤ length bytes.now }
     ensures before { (k : ℕ) → k < result → is_escaped (slice_index bytes.now k) ≡ false }
@@ -88,7 +88,7 @@ pub fn plain_len(bytes: &[u8]) -> usize
     bytes.len()
 }
 
-/// The text of a string with escapes, from behind its opening quote, and the bytes behind its closing one.
+/// The text of a string that may have escapes, read from after its opening quote, and the bytes after the string.
 pub fn escaped_from<'a>(alloc: Global, bytes: &'a [u8]) -> Result<(Vec<u8>, &'a [u8]), FormFault>
     ensures { Gives (λ read. (read.0.items, read.1.now)) result (string_from bytes.now) }
 {

@@ -1,4 +1,4 @@
-//! The texts of JSON: a record, and the files that records are joined to.
+//! The JSON record of a row, with its fields in byte order of their names.
 ghost use Rattle.std.specs.Prelude.{◌≡◌, ◌≤◌, ◌++◌, ◌∷◌, List, ℕ, [], length, map, IfOk, OnOk, Some, slice_index_or, codes};
 ghost use Rattle.json.specs.Print.{print};
 ghost use Rattle.lei_records.specs.Rows.{text_at};
@@ -12,7 +12,7 @@ use json::Writer;
 use lei_outside::{Bytes, NoMemory};
 use std::alloc::Global;
 
-// The places of each sheet's fields in byte order of their names.
+// The places of each sheet's fields, in byte order of the names.
 const LEI_PLACES: [u8; 32] = [
     17, 20, 19, 30, 31, 32, 29, 10, 12, 9, 13, 11, 5, 7, 4, 8, 6, 18, 16, 2, 3, 15, 14, 21, 1, 28,
     22, 23, 26, 25, 24, 27,
@@ -32,7 +32,7 @@ pub fn places(sheet: Sheet) -> &'static [u8]
     }
 }
 
-/// The record of a row: the fields that are present, with names in byte order.
+/// The record of a row: the fields that are present, with their names in byte order.
 pub fn record_text(alloc: Global, row: &Row) -> Result<Bytes, NoMemory>
     ensures { IfOk result (λ text. text ≡ json_record row.now) }
 {
@@ -45,8 +45,8 @@ pub fn record_text(alloc: Global, row: &Row) -> Result<Bytes, NoMemory>
     Ok(Bytes::from(out.into_inner()))
 }
 
-// About how many bytes its record takes, and one to spare, which the writer asks for: of each field that is present the
-// name and the text, four quotes, a colon and a comma.
+// About how many bytes the row's record takes, and one to spare, because the writer asks for it. Each field that is
+// present takes its name and its text, four quotes, a colon and a comma.
 fn record_room(row: &Row) -> usize {
     let sheet = row.sheet();
     let mut room = row.joined().len().saturating_add(2);

@@ -1,4 +1,4 @@
-//! Files of JSON, joined of the records of rows.
+//! Files in JSON, joined from the records of rows.
 ghost use Rattle.std.specs.Prelude.{◌≡◌, ◌∷◌, ◌++◌, List, ℕ, [], false, length, map, decimal, codes, IfOk, OnOk};
 ghost use Rattle.json.specs.Token.{begin_array, begin_object, key, number, string};
 ghost use Rattle.lei_shapes.specs.Clock.{moment_text};
@@ -28,7 +28,7 @@ pub fn json_copy_text(alloc: Global, head: &Head, rows: &[RowTexts]) -> Result<B
     Ok(Bytes::from(out))
 }
 
-/// The text of a copy with these rows, each printed as its record, with room for so many bytes.
+/// The text of a copy with these rows, each printed as its record. It reserves `room` bytes for them.
 pub fn json_rows_text(
     alloc: Global,
     head: &Head,
@@ -65,7 +65,7 @@ pub fn json_delta_text(
     Ok(Bytes::from(out))
 }
 
-// Puts a change behind the others, with its comma where another stands before it.
+// Appends a change, after a comma if another change precedes it.
 #[tactic(auto, unfolding(json::specs::Print::escape_byte))]
 fn put_change(
     alloc: Global,
@@ -98,7 +98,7 @@ fn put_change(
     Ok(())
 }
 
-// Puts a record between what begins its change and the brace that closes it.
+// Appends a record between the start of its change and the brace that closes the change.
 fn put_record(out: &mut Vec<u8>, later: bool, begin: &[u8], text: &[u8]) -> Result<(), NoMemory>
     ensures { OnOk result (out.new.items
         ≡ out.old.items ++ (comma_if later ++ (begin.now ++ (text.now ++ 125 ∷ [])))) }
@@ -109,7 +109,7 @@ fn put_record(out: &mut Vec<u8>, later: bool, begin: &[u8], text: &[u8]) -> Resu
     Ok(())
 }
 
-/// Puts an item behind the others, with its comma where another stands before it.
+/// Appends an item, after a comma if another item precedes it.
 pub fn put_item(out: &mut Vec<u8>, later: bool, item: &[u8]) -> Result<(), NoMemory>
     ensures { OnOk result (out.new.items ≡ out.old.items ++ (comma_if later ++ item.now)) }
 {
@@ -120,7 +120,7 @@ pub fn put_item(out: &mut Vec<u8>, later: bool, item: &[u8]) -> Result<(), NoMem
     Ok(())
 }
 
-// The begin of a copy, up to the bracket that opens the array of its records.
+// The start of a copy, up to the bracket that opens the array of its records.
 fn copy_begin(alloc: Global, head: &Head, count: usize) -> Result<Vec<u8>, NoMemory>
     ensures { IfOk result (λ out. (rest : List ℕ) → out.items ++ rest ≡ before_copy head.now count rest) }
 {
@@ -132,7 +132,7 @@ fn copy_begin(alloc: Global, head: &Head, count: usize) -> Result<Vec<u8>, NoMem
     Ok(out.into_inner())
 }
 
-// The begin of a delta, up to the bracket that opens the array of its records.
+// The start of a delta, up to the bracket that opens the array of its records.
 fn delta_begin(alloc: Global, head: &Head, count: usize) -> Result<Vec<u8>, NoMemory>
     ensures { IfOk result (λ out. (rest : List ℕ) → out.items ++ rest ≡ before_delta head.now count rest) }
 {
@@ -171,7 +171,7 @@ fn put_number(out: &mut Writer, name: &str, value: u64) -> Result<(), NoMemory>
     Ok(())
 }
 
-// Writes how many records there are, and opens their array.
+// Writes the number of records, and opens their array.
 fn put_records(out: &mut Writer, count: usize) -> Result<(), NoMemory>
     ensures before { out.new.before ≡ out.old.before }
     ensures tokens { OnOk result (out.new.tokens ≡ out.old.tokens

@@ -14,21 +14,23 @@ ghost use Rattle.copy_forms.specs.Files.{IsCopy, IsDelta};
 ghost use Rattle.copy_csv.specs.Sheets.{SheetRow};
 ghost use Rattle.copy_forms.specs.Trails.{DeltasLeadOn, DeltasLeadOnFromBetween, IsSound, Trail};
 
-/// In every sound trail of at most 1,000,000 publications, a copy that is patched by the delta to a later one is the
-/// copy of that one, byte for byte, in both forms and of each sheet. So it is for an empty delta, for a row that
-/// changed back, where a key is dropped that the copy lacks, and from a narrow publication to a wide one.
+/// In every sound trail of at most 1,000,000 publications, take a copy and the delta from it to the same or a later
+/// publication. The copy patched by the delta is that publication's copy, byte for byte, in both forms and for each
+/// sheet. The delta may be empty, have a row that changed back, or drop a key that the copy lacks. It may also lead
+/// from a narrow publication to a wide one.
 pub fn deltas_lead_from_copy_to_copy()
     ensures { (trail : Trail) → IsSound trail → length trail ≤ 1_000_000 → DeltasLeadOn trail }
 {}
 
-/// In every sound trail of at most 1,000,000 publications, the copy of a publication that is patched by a delta from
-/// the same or an earlier one is the copy of the publication that the delta leads to, byte for byte, in both forms and
-/// of each sheet.
+/// In every sound trail of at most 1,000,000 publications, take a copy. Take also a delta from the same or an earlier
+/// publication to the same or a later one. The copy patched by the delta is the copy of the publication that the delta
+/// leads to. This holds byte for byte, in both forms and for each sheet.
 pub fn deltas_lead_on_from_between()
     ensures { (trail : Trail) → IsSound trail → length trail ≤ 1_000_000 → DeltasLeadOnFromBetween trail }
 {}
 
-/// In CSV no two widths and no two lists of rows have one text, and no two widths and lists of changes.
+/// In CSV, copies of a sheet have different texts if their widths or their rows differ. So have deltas if their widths
+/// or their changes differ.
 pub fn csv_tells_its_rows()
     ensures copies { (sheet : Sheet) (bytes : Text) (wide other : Bool) (rows others : List SheetRow)
         → IsCsvCopy sheet bytes wide rows → IsCsvCopy sheet bytes other others
@@ -38,8 +40,8 @@ pub fn csv_tells_its_rows()
         → (wide ≡ other) × (changes ≡ others) }
 {}
 
-/// In JSON no two heads and no two lists of rows have one text, and no two heads and lists of changes. It is said of
-/// texts of fewer than 2^64 bytes, as every text in memory has.
+/// In JSON, copies of a sheet have different texts if their heads or their rows differ. So have deltas if their heads
+/// or their changes differ. This is stated for texts of fewer than 2^64 bytes, as all texts in memory are.
 pub fn json_tells_its_heads_and_rows()
     ensures copies { (sheet : Sheet) (bytes : Text) (head other : Head) (wide wider : Bool)
         → (rows others : List SheetRow)
@@ -53,7 +55,7 @@ pub fn json_tells_its_heads_and_rows()
         → (head ≡ other) × (changes ≡ others) }
 {}
 
-/// In JSON the names of a sheet's fields stand in byte order.
+/// In JSON, the names of a sheet's fields rise in byte order.
 pub fn json_names_rise()
     ensures { (sheet : Sheet) → IsStrictlySortedBy (slice_cmp nat_cmp) (json_names sheet) }
 {}

@@ -1,4 +1,4 @@
-//! The texts of golden copies and of deltas, in CSV and in JSON: printed, read back, and patched.
+//! The texts of golden copies and of deltas, in CSV and in JSON: printing, reading back, and laws of patching.
 #![tactic(auto)]
 
 mod copies;

@@ -1,4 +1,4 @@
-//! Rows and changes, merged in the order of their keys.
+//! The place of a row among changes, for merging rows and changes in the order of their keys.
 ghost use Rattle.std.specs.Prelude.{◌≡◌, ◌≤◌, length, map};
 ghost use Rattle.std.specs.List.{All};
 ghost use Rattle.copy_csv.specs.declared.rows.Change.{Change as Changed};
@@ -8,12 +8,12 @@ ghost use Rattle.copy_forms.specs.Merging.{StandsAmong};
 use copy_csv::{Change, Row};
 use std::cmp::Ordering;
 
-/// A change in the form in which its holder has it.
+/// A change in whatever form its holder has it.
 pub trait HeldChange {
-    /// The change.
+    /// The change, as contracts see it.
     ghost change: { Self → Changed };
 
-    /// The row of its key.
+    /// The row of the change's key.
     fn row(&self) -> &Row
         ensures { result.now ≡ changed_row (change self.now) };
 }
@@ -26,8 +26,8 @@ impl HeldChange for Change {
     }
 }
 
-/// Where a row stands among the changes from a place on: the place after those that come before it or have its key, and
-/// whether the row stays, which it does if no change has its key.
+/// Where a row is among the changes from the index `at` on, if their keys rise: the index after those that come before
+/// the row or have its key, and whether the row stays. It stays if no change has its key.
 pub fn place_row<C: HeldChange>(changes: &[C], at: usize, row: &Row) -> (usize, bool)
     requires place { at ≤ length changes.now }
     requires sheets { All (λ change. (changed_row (C.change change)).sheet ≡ row.now.sheet) changes.now }

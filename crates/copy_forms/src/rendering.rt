@@ -1,4 +1,4 @@
-//! Rows, rendered.
+//! Rendering a row in both forms.
 ghost use Rattle.std.specs.Prelude.{◌≡◌, IfOk};
 ghost use Rattle.copy_forms.specs.Files.{rendered};
 

@@ -1,4 +1,4 @@
--- What is answered of a copy and a delta is the only answer.
+-- The result for a copy and a delta is the only right one.
 use Rattle.std.proofs.Common.{◌≡◌, Bool, true, false, ℕ, ◌<◌, ◌^◌, Option, Some, List, length, refl, sym, ap, subst, ◌∙◌, arith}
 use Rattle.std.specs.Prelude.{Result, Ok, Err, unwrap_or, pos, ⊤}
 use Rattle.std.proofs.lemmas.Bool.{false≢true}
@@ -23,7 +23,7 @@ use Rattle.delta_apply.specs.declared.fault.ApplyFault.TheVariants as faults
 use Rattle.delta_apply.specs.Applying.{GoesFrom, IsAnswer, IsApplied, IsOfOtherBase, IsOlder, IsSomeCopy, LeadsOn, UnlessNoMemory}
 use Rattle.delta_apply.specs.Walks.{IsPatchedCsv, IsPatchedJson}
 
--- ---- one copy and one delta
+-- ---- a text is at most one copy and one delta
 
 -- the bytes are the delta of a sheet in some width, with some head and some changes
 record IsSomeDelta (bytes : Text) (sheet : Sheet) (form : Form) : Type 0 where
@@ -32,12 +32,12 @@ record IsSomeDelta (bytes : Text) (sheet : Sheet) (form : Form) : Type 0 where
   changes : List Change
   is : IsDelta bytes sheet form head wide changes
 
--- heads that a form tells are the same
+-- the heads are the same if the form has them
 abbrev SameHead : Form → Head → Head → Type 0
 SameHead Form.Csv head other = ⊤
 SameHead Form.Json head other = head ≡ other
 
--- in JSON there is one width
+-- in JSON there is only one width
 one_width : (wide other : Bool) → (wide ≡ true → false ≡ true) → (other ≡ true → false ≡ true) → wide ≡ other
 one_width false false is also = refl
 one_width true other is also = absurd (false≢true (is refl))
@@ -71,10 +71,10 @@ same_text sheet Form.Json wide head other rows same = ap (λ h. copy sheet Form.
 csv≢json : (form : Form) → form ≡ Form.Csv → form ≡ Form.Json → ⊥
 csv≢json form csv json = false≢true (sym (ap (may_be_wide Sheet.Lei) (sym csv ∙ json)))
 
--- ---- one answer
+-- ---- only one result is right
 
 module _ (copied delta : Text) (sheet : Sheet) (form : Form) (short : length copied < 2 ^ 64) (small : length delta < 2 ^ 64) where
-  -- the copy and the delta that an answer speaks of
+  -- the copy and the delta that a result is about
   abbrev copy_in : (bytes : Text) → IsPatched copied delta bytes sheet form → IsSomeCopy copied sheet form
   copy_in bytes is = record { head = is.base_head; wide = is.base_wide; rows = is.rows; is = is.base_is }
 
@@ -254,7 +254,7 @@ same_some x y o is also = ap (λ o. unwrap_or o x) (sym is ∙ also)
 pub json-some_copy : (bytes : Text) (sheet : Sheet) (read : CopyRead) → IsCopyRead bytes sheet Form.Json read → IsSomeCopy bytes sheet Form.Json
 json-some_copy bytes sheet read is = record { head = is.0; wide = read.wide; rows = read.rows; is = is.2 }
 
--- what comes of a copy and a delta that were read, whatever their heads
+-- the result for a copy and a delta that were read, whatever their heads
 pub json-answer : (copied delta : Text) (sheet : Sheet) (base : CopyRead) (read : DeltaRead) → IsCopyRead copied sheet Form.Json base
     → IsDeltaRead delta sheet Form.Json read → (r : Result Text ApplyFault)
     → ((base_head head : Head) → base.head ≡ Some base_head → read.head ≡ Some head → IsPatchedJson base_head base.rows head read.changes r)

@@ -1,4 +1,4 @@
--- A walk over the lines of a copy: the rows that were read, and what was put of them and the changes.
+-- A walk over the lines of a copy: the rows that were read, and the output for them and the changes.
 use Rattle.std.proofs.Common.{◌≡◌, ℕ, zero, suc, ◌+◌, ◌-◌, ◌<◌, ◌≤◌, Bool, Option, None, Some, List, [], ◌∷◌, ◌++◌, length, drop, take, map, true, false, refl, sym, ap, subst, ◌∙◌, append_assoc, arith, length-append}
 use Rattle.std.specs.Prelude.{flat_map, if◌then◌else◌, unwrap_or}
 use Rattle.std.specs.List.{All, slice_get}
@@ -19,7 +19,7 @@ use Rattle.copy_forms.specs.Merging.{PassesRow, merged, put_by}
 use Rattle.delta_apply.specs.Walks.{AreLinesPatched, IsCopyPatched, PutsLines}
 use Rattle.copy_forms.proofs.Merged.{merged_is}
 
--- so far these rows were read, and with whatever rows follow them, what was put goes on as the whole does
+-- these rows were read so far; whatever rows follow them, the output continues in the same way as the whole output
 pub record Walked (sheet : Sheet) (base_wide wide : Bool) (bytes : List ℕ) (changes : List Change) (first reader : List ℕ) (last : Option SheetRow) (next : ℕ) (out : List ℕ) : Type 0 where
   pub rows : List SheetRow
   pub printed : bytes ≡ flat_map (row_line base_wide) rows ++ reader
@@ -74,7 +74,7 @@ module _ (sheet : Sheet) (base_wide wide : Bool) (bytes : List ℕ) (changes : L
         ∙ ap (λ l. first ++ flat_map (row_line wide) (merged l changes)) (sym (append_assoc walked.rows (row ∷ []) more));
   }
 
-  -- the row stays, and what is put of its line is its line in the other width
+  -- the row stays, and the line that is put for it is its line in the delta's width
   pub walk-keeps : (row : SheetRow) (reader' : List ℕ) (next' : ℕ) (stays : Bool) (mid kept out' : List ℕ)
       → Reads (row_line base_wide) (IsRowIn sheet base_wide) reader (Some row) reader' → IsUtf8 reader' → comes_after key last row ≡ true
       → next' ≤ length changes → PassesRow (row_line wide) changes row next out next' (mid ++ (if stays then row_line wide row else []))
@@ -85,7 +85,7 @@ module _ (sheet : Sheet) (base_wide wide : Bool) (bytes : List ℕ) (changes : L
       ap (λ b. mid ++ (if b then row_line wide row else [])) stay ∙ ap (λ l. mid ++ l) (sym kept_is) ∙ sym put in
       walk-steps row reader' next' out' read utf8 after within (subst (PassesRow (row_line wide) changes row next out next') all passes)
 
-  -- a change stands in its place
+  -- a change with the row's key takes its place
   pub walk-replaces : (row : SheetRow) (reader' : List ℕ) (next' : ℕ) (stays : Bool) (mid out' : List ℕ)
       → Reads (row_line base_wide) (IsRowIn sheet base_wide) reader (Some row) reader' → IsUtf8 reader' → comes_after key last row ≡ true
       → next' ≤ length changes → PassesRow (row_line wide) changes row next out next' (mid ++ (if stays then row_line wide row else []))
@@ -95,13 +95,13 @@ module _ (sheet : Sheet) (base_wide wide : Bool) (bytes : List ℕ) (changes : L
       ap (λ b. mid ++ (if b then row_line wide row else [])) gone ∙ append-nil mid ∙ sym same in
       walk-steps row reader' next' out' read utf8 after within (subst (PassesRow (row_line wide) changes row next out next') all passes)
 
-  -- where no row stands next, the bytes are no lines of rows
+  -- if no row comes next, the bytes aren't the lines of rows
   pub walk-unread : (new : List ℕ) → 0 < length reader → Reads (row_line base_wide) (IsRowIn sheet base_wide) reader None new
       → (rows : List SheetRow) → AreRead (row_line base_wide) (IsRowIn sheet base_wide) key bytes rows → ⊥
   walk-unread new some none =
       none_next (row_line base_wide) (IsRowIn sheet base_wide) key (row-one_way sheet base_wide) (row-some sheet base_wide) bytes walked.rows reader new walked.good walked.printed some none
 
-  -- and where its key doesn't rise
+  -- and neither are they if the key of the next row doesn't rise
   pub walk-falls : (row : SheetRow) (new : List ℕ) → Reads (row_line base_wide) (IsRowIn sheet base_wide) reader (Some row) new → comes_after key last row ≡ false
       → (rows : List SheetRow) → AreRead (row_line base_wide) (IsRowIn sheet base_wide) key bytes rows → ⊥
   walk-falls row new read after =
@@ -118,12 +118,12 @@ module _ (sheet : Sheet) (base_wide wide : Bool) (bytes : List ℕ) (changes : L
           ap (λ (r : SheetRow). r.sheet) (sym (ap (λ o. unwrap_or o x) e)) ∙ (All-head (IsRowIn sheet base_wide) x rows all).0.1
       found (x ∷ rows) (suc n) all e = found rows n (All-tail (IsRowIn sheet base_wide) x rows all) e
 
-  -- what is left to read is not longer than all
+  -- at most as many bytes are left to read as there are in all
   pub walk-left : length reader ≤ length bytes
   walk-left = let long : length bytes ≡ length (flat_map (row_line base_wide) walked.rows) + length reader =
       ap length walked.printed ∙ length-append (flat_map (row_line base_wide) walked.rows) reader in omega arith
 
-  -- the line of the next row
+  -- the bytes between the two offsets are the line of the next row
   pub walk-line : (row : SheetRow) (new : List ℕ) → reader ≡ row_line base_wide row ++ new → (start end : ℕ)
       → start ≡ length bytes - length reader → end ≡ length bytes - length new
       → take (end - start) (drop start bytes) ≡ row_line base_wide row
@@ -150,7 +150,7 @@ module _ (sheet : Sheet) (base_wide wide : Bool) (bytes : List ℕ) (changes : L
         put = put ∙ walked.walk [] ∙ ap (λ l. first ++ flat_map (row_line wide) (merged l changes)) (append-nil walked.rows);
       }
 
--- all lines after the first one
+-- all lines that follow the first one
 pub lines-patched : (sheet : Sheet) (base_wide wide : Bool) (lines : List ℕ) (changes : List Change) (first out : List ℕ)
     → first ≡ line (names_shown wide sheet) → AreChanges sheet changes → PutsLines sheet base_wide wide lines changes first out
     → AreLinesPatched sheet base_wide wide lines changes out
@@ -162,7 +162,7 @@ lines-patched sheet base_wide wide lines changes first out head are puts = recor
       ∙ sym (copy-is sheet wide (patched puts.rows changes));
 }
 
--- so a copy is patched whose lines these are
+-- so a copy that has these lines is patched
 pub csv-patched : (sheet : Sheet) (base_wide wide : Bool) (copied lines : List ℕ) (changes : List Change) (out : List ℕ)
     → HasLines names_shown sheet copied base_wide lines → (base_wide ≡ true → wide ≡ true)
     → AreLinesPatched sheet base_wide wide lines changes out → IsCopyPatched sheet copied wide changes out

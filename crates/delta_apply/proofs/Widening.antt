@@ -14,11 +14,11 @@ use Rattle.delta_apply.specs.Walks.{kept_line}
 abbrev lacked : List ℕ
 lacked = codes ",\"\",\"\",\"\",\"\"\n"
 
--- the columns that a narrow file of `lei` lacks, where they are empty
+-- the columns that a narrow file of `lei` lacks, if they are empty
 lacked-is : flat_map after_comma (replicate (width Sheet.Lei - columns false Sheet.Lei) []) ++ 10 ∷ [] ≡ lacked
 lacked-is = refl
 
--- of a row that a narrow file shows whole, the line in a wide one has these columns before its LF
+-- if a narrow file loses nothing of a row, the row's line in a wide file is that line with these columns before its LF
 widened : (row : SheetRow) → IsRowIn Sheet.Lei false row → kept_line true (row_line false row) ≡ row_line true row
 widened row is =
     let start : List ℕ = row_start row in
@@ -31,7 +31,7 @@ widened row is =
     ∙ ap (λ l. row_start row ++ (l ++ 10 ∷ [])) (sym (tail-empty Sheet.Lei row is))
     ∙ row-joined true row is.0.0
 
--- what is put of the line of a row that stays is its line in the delta's width
+-- the line that is put for a row that stays is its line in the delta's width
 pub kept-is : (sheet : Sheet) (base_wide wide : Bool) (row : SheetRow) → IsRowIn sheet base_wide row → (base_wide ≡ true → wide ≡ true)
     → (wide ≡ true → has_widths sheet ≡ true) → kept_line (not (beq base_wide wide)) (row_line base_wide row) ≡ row_line wide row
 kept-is sheet true true row is newer widths = refl

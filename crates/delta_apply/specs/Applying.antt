@@ -1,4 +1,4 @@
--- What comes of a copy and a delta: the copy after the delta, or why there is none.
+-- The result for a copy and a delta: the copy after the delta, or why there is none.
 use Rattle.std.specs.Prelude.{◌≡◌, ◌≢◌, ◌≤◌, ℕ, Bool, List, length, false, true, Result, Ok, Err, Some, ⊤}
 use Rattle.lei_code.specs.Texts.{Text}
 use Rattle.copy_csv.specs.declared.heads.Head.{Head}
@@ -19,28 +19,28 @@ pub record IsSomeCopy (bytes : Text) (sheet : Sheet) (form : Form) : Type 0 wher
   pub rows : List SheetRow
   pub is : IsCopy bytes sheet form head wide rows
 
--- The bytes are no copy of a sheet, whatever head, width and rows.
+-- The bytes aren't a copy of a sheet, whatever the head, the width and the rows are.
 abbrev pub IsNoCopy : Text → Sheet → Form → Type 0
 IsNoCopy bytes sheet form =
     (head : Head) (wide : Bool) (rows : List SheetRow) → IsCopy bytes sheet form head wide rows → ⊥
 
--- The bytes are no delta of a sheet, whatever head, width and changes.
+-- The bytes aren't a delta of a sheet, whatever the head, the width and the changes are.
 abbrev pub IsNoDelta : Text → Sheet → Form → Type 0
 IsNoDelta bytes sheet form =
     (head : Head) (wide : Bool) (changes : List Change) → IsDelta bytes sheet form head wide changes → ⊥
 
--- In JSON a delta goes from the publication of the copy. In CSV no head is printed, so nothing is asked.
+-- In JSON, a delta starts from the publication of the copy. In CSV no head is printed, so there is no condition.
 abbrev pub GoesFrom : Form → Head → Head → Type 0
 GoesFrom Form.Csv base head = ⊤
 GoesFrom Form.Json base head = base.publication ≡ head.from
 
 -- The bytes are the copy after the delta, in the delta's width, which isn't narrower than the copy's. In JSON the delta
--- goes from the copy's publication.
+-- starts from the copy's publication.
 pub record IsApplied (copy delta bytes : Text) (sheet : Sheet) (form : Form) : Type 0 where
   pub patched : IsPatched copy delta bytes sheet form
   pub goes_from : GoesFrom form patched.base_head patched.head
 
--- The two are a copy and a delta in JSON, and the delta goes from another publication than that of the copy.
+-- The two are a copy and a delta in JSON, and the delta starts from another publication than the copy's.
 pub record IsOfOtherBase (copy delta : Text) (sheet : Sheet) (form : Form)
     (publication from : ℕ) : Type 0 where
   pub in_json : form ≡ Form.Json
@@ -56,7 +56,7 @@ pub record IsOfOtherBase (copy delta : Text) (sheet : Sheet) (form : Form)
   pub from_is : from ≡ head.from
   pub differ : publication ≢ from
 
--- The two are a copy and a delta in CSV, and the copy is wide and the delta isn't. Only `lei` has files of two widths.
+-- The two are a copy and a delta in CSV. The copy is wide and the delta isn't. Only `lei` has files of two widths.
 pub record IsOlder (copy delta : Text) (sheet : Sheet) (form : Form) : Type 0 where
   pub in_csv : form ≡ Form.Csv
   pub base_head : Head
@@ -66,9 +66,9 @@ pub record IsOlder (copy delta : Text) (sheet : Sheet) (form : Form) : Type 0 wh
   pub changes : List Change
   pub delta_is : IsDelta delta sheet form head false changes
 
--- What is to be answered of a copy and a delta, in this order: that the one is no copy, that the other is no delta,
--- that they don't go together by their publications or by their widths, or the copy after the delta. Want of memory is
--- never to be answered.
+-- The right result for a copy and a delta is the first of these that applies: the copy isn't one, the delta isn't one,
+-- their publications or their widths don't fit together, or the copy after the delta. Out of memory is never a right
+-- result.
 abbrev pub IsAnswer : Text → Text → Sheet → Form → Result Text ApplyFault → Type 0
 IsAnswer copy delta sheet form (Ok bytes) = IsApplied copy delta bytes sheet form
 IsAnswer copy delta sheet form (Err faults.CopyNotRead) = IsNoCopy copy sheet form
@@ -79,7 +79,7 @@ IsAnswer copy delta sheet form (Err (faults.WrongBase publication from)) = IsOfO
 IsAnswer copy delta sheet form (Err faults.OlderDelta) = IsOlder copy delta sheet form
 IsAnswer copy delta sheet form (Err faults.NoMemory) = ⊥
 
--- This holds, unless memory was wanting.
+-- This holds, unless memory ran out.
 abbrev pub UnlessNoMemory : Result Text ApplyFault → Type 0 → Type 0
 UnlessNoMemory (Ok bytes) P = P
 UnlessNoMemory (Err faults.CopyNotRead) P = P
@@ -88,8 +88,8 @@ UnlessNoMemory (Err (faults.WrongBase publication from)) P = P
 UnlessNoMemory (Err faults.OlderDelta) P = P
 UnlessNoMemory (Err faults.NoMemory) P = ⊤
 
--- Of the copy of a publication of a sound trail and the delta from there to a later one, or to itself, the copy of that
--- one is answered, byte for byte, unless memory was wanting.
+-- Take the copy of a publication of a sound trail, and the delta from it to the same or a later one. Unless memory ran
+-- out, the result is the copy of that one, byte for byte.
 abbrev pub LeadsOn : Text → Text → Sheet → Form → Result Text ApplyFault → Type 0
 LeadsOn copy delta sheet form result =
     (trail : Trail) → IsSound trail → length trail ≤ 1_000_000

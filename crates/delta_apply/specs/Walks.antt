@@ -1,4 +1,4 @@
--- What a walk over rows and changes puts.
+-- The output of a walk over rows and changes.
 use Rattle.std.specs.Prelude.{◌≡◌, ◌≢◌, ◌-◌, Bool, List, ◌++◌, codes, take, length, flat_map, false, true, Result, Ok, Err, ⊤}
 use Rattle.lei_code.specs.Texts.{Text}
 use Rattle.copy_csv.specs.declared.heads.Head.{Head}
@@ -16,29 +16,29 @@ use Rattle.copy_forms.specs.Merging.{merged}
 
 -- ---- in CSV
 
--- The line of a row that stays: as it stands, or in a copy that becomes wide with four empty columns before its LF.
+-- The line of a row that stays: unchanged, or in a copy that becomes wide with four empty columns before its LF.
 abbrev pub kept_line : Bool → Text → Text
 kept_line false line = line
 kept_line true line = take (length line - 1) line ++ codes ",\"\",\"\",\"\",\"\"\n"
 
--- The bytes are lines of rows of a sheet in the base's width, whose keys rise, and the lines of these rows after the
--- changes were put after the others, in another width.
+-- The bytes are the lines of rows of a sheet in the base's width, whose keys rise. The lines of these rows after the
+-- changes were appended to `old`, in the delta's width.
 pub record PutsLines (sheet : Sheet) (base_wide wide : Bool) (bytes : Text) (changes : List Change)
     (old new : Text) : Type 0 where
   pub rows : List SheetRow
   pub are : AreRead (row_line base_wide) (IsRowIn sheet base_wide) key bytes rows
   pub put : new ≡ old ++ flat_map (row_line wide) (merged rows changes)
 
--- The lines are those of rows of a sheet in the base's width, whose keys rise, and the bytes are the copy of these rows
--- after the changes, in another width.
+-- The lines are those of rows of a sheet in the base's width, whose keys rise. The bytes are the copy of these rows
+-- after the changes, in the delta's width.
 pub record AreLinesPatched (sheet : Sheet) (base_wide wide : Bool) (lines : Text) (changes : List Change)
     (bytes : Text) : Type 0 where
   pub rows : List SheetRow
   pub are : AreRead (row_line base_wide) (IsRowIn sheet base_wide) key lines rows
   pub bytes_are : bytes ≡ csv_copy sheet wide (patched rows changes)
 
--- The first text is a copy in CSV, not wider than the changes are, and the bytes are the copy of its rows after the
--- changes, in their width.
+-- The first text is a copy in CSV, not wider than the delta. The bytes are the copy of its rows after the changes, in
+-- the delta's width.
 pub record IsCopyPatched (sheet : Sheet) (copy : Text) (wide : Bool) (changes : List Change)
     (bytes : Text) : Type 0 where
   pub base_wide : Bool
@@ -47,8 +47,8 @@ pub record IsCopyPatched (sheet : Sheet) (copy : Text) (wide : Bool) (changes : 
   pub newer : base_wide ≡ true → wide ≡ true
   pub bytes_are : bytes ≡ csv_copy sheet wide (patched rows changes)
 
--- What comes in CSV of a copy and of changes that were read in this width: the copy after the changes, that there is no
--- copy, or that there is a wide one and the changes aren't. Of want of memory nothing is said.
+-- The result in CSV for a copy and for changes that were read in this width. It is the copy after the changes, or says
+-- that there is no copy, or that the copy is wide and the changes aren't. Out of memory says nothing.
 abbrev pub IsPatchedCsv : Sheet → Text → Bool → List Change → Result Text ApplyFault → Type 0
 IsPatchedCsv sheet copy wide changes (Ok bytes) = IsCopyPatched sheet copy wide changes bytes
 IsPatchedCsv sheet copy wide changes (Err faults.CopyNotRead) =
@@ -61,8 +61,9 @@ IsPatchedCsv sheet copy wide changes (Err faults.NoMemory) = ⊤
 
 -- ---- in JSON
 
--- Rows and changes that were read of JSON with these heads, patched: the text under the delta's head, or the wrong base
--- with both numbers. Neither of the two is unread, there is one width, and of want of memory nothing is said.
+-- The result for rows and changes that were read from JSON with these heads: the patched copy with the delta's head, or
+-- the wrong base with both numbers. Both texts were read, and there is only one width, so no other fault occurs. Out of
+-- memory says nothing.
 abbrev pub IsPatchedJson : Head → List SheetRow → Head → List Change → Result Text ApplyFault → Type 0
 IsPatchedJson base rows head changes (Ok bytes) =
     (base.publication ≡ head.from) × (bytes ≡ json_copy (patched_head head) (patched rows changes))

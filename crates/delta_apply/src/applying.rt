@@ -1,4 +1,4 @@
-//! A delta, applied to a copy.
+//! Applying a delta to a copy, in both forms.
 ghost use Rattle.std.specs.Prelude.{◌≡◌, IsSome, Result as Results, Some};
 ghost use Rattle.lei_code.specs.Texts.{Text};
 ghost use Rattle.register_words.specs.declared.sheets.Form.{Form};
@@ -15,11 +15,11 @@ use copy_forms::{CopyRead, DeltaRead, Form, FormFault, Head, Sheet, read_copy, r
 use lei_outside::{Bytes, NoMemory};
 use std::alloc::Global;
 
-/// The copy after the delta, in the delta's width. The faults are reported in the order of `ApplyFault`. `CopyNotRead`
-/// and `DeltaNotRead` come if the bytes aren't printed as a copy, or a delta, of this sheet and form. In CSV no heads
-/// are printed, so `WrongBase` comes in JSON alone: if the delta goes from another publication than the copy's.
-/// `OlderDelta` comes in CSV of `lei` alone: if the copy is wide and the delta isn't. Except that memory may be
-/// wanting, what is answered is the one answer that there is.
+/// The copy after the delta, in the delta's width. Faults are reported in the order of `ApplyFault`. `CopyNotRead` and
+/// `DeltaNotRead` are returned if the bytes aren't printed as a copy, or a delta, of this sheet and form. In CSV no
+/// heads are printed, so `WrongBase` is returned only in JSON: if the delta starts from another publication than the
+/// copy's. `OlderDelta` is returned only in CSV of `lei`: if the copy is wide and the delta isn't. Unless memory runs
+/// out, the result is the only right one.
 pub fn apply(
     alloc: Global,
     copy: &[u8],
@@ -50,7 +50,7 @@ fn apply_in_csv(alloc: Global, copy: &[u8], delta: &[u8], sheet: Sheet) -> Resul
     patch_csv(alloc, sheet, copy, &read, room)
 }
 
-// In CSV: what is to be answered where the delta is none.
+// The result in CSV if the delta isn't one.
 fn answer_unread(alloc: Global, copy: &[u8], sheet: Sheet) -> Result<Bytes, ApplyFault>
     ensures { (delta : Text) → IsNoDelta delta sheet Form.Csv
         → UnlessNoMemory result (IsAnswer copy.now delta sheet Form.Csv result) }
@@ -87,7 +87,7 @@ fn apply_in_json(
     patch_read(alloc, sheet, &base, &read, room)
 }
 
-// The copy of the base's rows after the changes, if the delta goes from the base's publication.
+// The copy of the base's rows after the changes, if the delta starts from the base's publication.
 fn patch_read(
     alloc: Global,
     sheet: Sheet,

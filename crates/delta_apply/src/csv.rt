@@ -1,4 +1,4 @@
-//! A copy in CSV, patched as it is read: the line of a row that stays is copied.
+//! Patching a copy in CSV while it is read: the line of a row that stays is copied.
 ghost use Rattle.std.specs.Prelude.{◌≡◌, ◌<◌, ◌≤◌, ◌++◌, [], false, true, List as Items, drop, flat_map, if◌then◌else◌, length, IfOk, IsErrOf, OnOk, Some};
 ghost use Rattle.std.specs.List.{All};
 ghost use Rattle.std.specs.Str.{IsUtf8};
@@ -18,8 +18,8 @@ use copy_forms::{Change, DeltaRead, FormFault, Row, Sheet, place_row};
 use lei_outside::{Bytes, NoMemory};
 use std::alloc::Global;
 
-/// The copy after this delta, with room for so many bytes. `CopyNotRead` says that the bytes are no copy, and
-/// `OlderDelta` that they are a wide one and the delta is narrow.
+/// The copy after this delta, with capacity for at least `room` bytes. `CopyNotRead` says that the bytes aren't a copy,
+/// and `OlderDelta` that they are a wide one and the delta is narrow.
 pub fn patch_csv(
     alloc: Global,
     sheet: Sheet,
@@ -46,7 +46,7 @@ pub fn patch_csv(
     }
 }
 
-// What is to be answered if the copy has the first line of a wide one and the delta is narrow.
+// The result if the copy has the first line of a wide one and the delta is narrow.
 fn answer_older(alloc: Global, copy: &[u8], sheet: Sheet) -> Result<Bytes, ApplyFault>
     ensures { (lines : Text) (changes : Items Changed) → HasLines names_shown sheet copy.now true lines
         → IsPatchedCsv sheet copy.now false changes result }
@@ -61,8 +61,8 @@ fn answer_older(alloc: Global, copy: &[u8], sheet: Sheet) -> Result<Bytes, Apply
     }
 }
 
-// The copy after this delta of what stands in these lines of a copy, which isn't the wider one. `NotRead` says that
-// they are no lines of rows whose keys rise.
+// The copy after this delta, given the lines of the copy before it, which isn't wider than the delta. `NotRead` says
+// that they aren't the lines of rows whose keys rise.
 fn patch_lines(
     alloc: Global,
     sheet: Sheet,
@@ -90,14 +90,14 @@ fn patch_lines(
     }
 }
 
-// How many bytes the columns take that lines get if they are widened: 12 for each, and a line of 28 columns has at
-// least 84 bytes.
+// At least as many bytes as the added columns take, if lines are widened. They take 12 bytes in each line, and a line
+// of 28 columns has at least 84 bytes.
 fn wider_by(lines: &[u8], widens: bool) -> usize {
     if widens { lines.len() / 7 } else { 0 }
 }
 
-// Puts the lines of the rows after the changes of a delta behind the others, in its width. `NotRead` says that the
-// bytes are no lines of rows whose keys rise.
+// Appends the lines of the rows after the changes of a delta, in its width. `NotRead` says that the bytes aren't the
+// lines of rows whose keys rise.
 fn put_patched(
     alloc: Global,
     sheet: Sheet,
@@ -141,7 +141,7 @@ fn put_patched(
     Ok(())
 }
 
-// Whether a row stands behind another one by its key, or there is no other.
+// Whether a row comes after another one by its key, or there is no other.
 fn follows(last: &Option<Row>, row: &Row) -> bool
     requires { (other : SheetRow) → last.now ≡ Some other → other.sheet ≡ row.now.sheet }
     ensures { result ≡ comes_after key last.now row.now }
@@ -152,8 +152,8 @@ fn follows(last: &Option<Row>, row: &Row) -> bool
     }
 }
 
-// Puts the lines of what the changes from a place on put before a row and in its place. Gives the place of the first
-// change that is left, and whether the row stays, which it does if no change has its key.
+// Appends the lines of what the changes from the index `at` on put before a row and in its place. Returns the index of
+// the first change that is left, and whether the row stays. It stays if no change has its key.
 fn put_next(
     out: &mut Vec<u8>,
     wide: bool,
@@ -172,8 +172,7 @@ fn put_next(
     Ok((left, stays))
 }
 
-// Puts the line of a row that stays behind the others. In a copy that becomes wide it gets the columns that it lacks,
-// which are empty.
+// Appends the line of a row that stays. If the copy becomes wide, the line gets empty columns for those that it lacks.
 fn put_kept(out: &mut Vec<u8>, line: &[u8], widens: bool) -> Result<(), NoMemory>
     requires { 0 < length line.now }
     ensures { OnOk result (out.new.items ≡ out.old.items ++ kept_line widens line.now) }
@@ -187,7 +186,7 @@ fn put_kept(out: &mut Vec<u8>, line: &[u8], widens: bool) -> Result<(), NoMemory
     Ok(())
 }
 
-// Puts the lines of what all of these changes put behind the others.
+// Appends the lines of the rows that these changes put.
 fn put_all(out: &mut Vec<u8>, wide: bool, changes: &[Change]) -> Result<(), NoMemory>
     ensures { OnOk result
         (out.new.items ≡ out.old.items ++ flat_map (row_line wide) (flat_map put_by changes.now)) }
@@ -198,7 +197,7 @@ fn put_all(out: &mut Vec<u8>, wide: bool, changes: &[Change]) -> Result<(), NoMe
     Ok(())
 }
 
-// Puts the line of what a change puts behind the others.
+// Appends the line of the row that a change puts, if it puts one.
 fn put_change(out: &mut Vec<u8>, wide: bool, change: &Change) -> Result<(), NoMemory>
     ensures { OnOk result (out.new.items ≡ out.old.items ++ flat_map (row_line wide) (put_by change.now)) }
 {

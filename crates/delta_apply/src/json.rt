@@ -1,4 +1,4 @@
-//! A copy in JSON, patched by its rows.
+//! Patching the rows of a copy in JSON.
 ghost use Rattle.std.specs.Prelude.{◌≡◌, ◌≤◌, ◌++◌, ◌∷◌, [], length, map, flat_map, IfOk, OnOk};
 ghost use Rattle.std.specs.List.{All};
 ghost use Rattle.copy_csv.specs.Rows.{AreChanges, AreRows, changed_row};
@@ -10,7 +10,7 @@ use copy_forms::{Change, Head, Row, Sheet, json_rows_text, place_row};
 use lei_outside::{Bytes, NoMemory};
 use std::alloc::Global;
 
-/// The copy of these rows after the changes, with this head, and with room for so many bytes.
+/// The copy of these rows after the changes, with this head. It reserves `room` bytes for the rows.
 pub fn patch_json(
     alloc: Global,
     sheet: Sheet,
@@ -27,7 +27,7 @@ pub fn patch_json(
     json_rows_text(alloc, head, &held, room)
 }
 
-// The rows after the changes, lent.
+// The rows after the changes, borrowed.
 fn merge<'a>(
     alloc: Global,
     sheet: Sheet,
@@ -47,8 +47,8 @@ fn merge<'a>(
     Ok(held)
 }
 
-// Puts behind the others what the changes from a place on put before a row, and what stands in its place: itself where
-// no change has its key. Gives the place of the first change that is left.
+// Appends what the changes from the index `at` on put before a row and in its place. Appends the row itself if no
+// change has its key. Returns the index of the first change that is left.
 fn push_next<'a>(
     held: &mut Vec<&'a Row>,
     changes: &'a [Change],
@@ -69,7 +69,7 @@ fn push_next<'a>(
     Ok(left)
 }
 
-// Puts what all of these changes put behind the others.
+// Appends the rows that these changes put.
 fn push_all<'a>(held: &mut Vec<&'a Row>, changes: &'a [Change]) -> Result<(), NoMemory>
     ensures { OnOk result (map (λ row. row.now) held.new.items
         ≡ map (λ row. row.now) held.old.items ++ flat_map put_by changes.now) }
@@ -80,7 +80,7 @@ fn push_all<'a>(held: &mut Vec<&'a Row>, changes: &'a [Change]) -> Result<(), No
     Ok(())
 }
 
-// Puts what a change puts behind the others.
+// Appends the row that a change puts, if it puts one.
 fn push_change<'a>(held: &mut Vec<&'a Row>, change: &'a Change) -> Result<(), NoMemory>
     ensures { OnOk result (map (λ row. row.now) held.new.items
         ≡ map (λ row. row.now) held.old.items ++ put_by change.now) }

@@ -1,4 +1,4 @@
-//! A golden copy, patched by a delta.
+//! Applying a delta to a golden copy.
 #![tactic(auto)]
 
 mod applying;

@@ -1,5 +1,5 @@
--- The LEIs that are found level by level: they stay within what is closed, no one stands there twice, and those of fewer
--- than so many levels are closed themselves.
+-- The LEIs that are found level by level: they stay within a closed list, and none occurs twice. If n levels have fewer
+-- than n LEIs, these are closed themselves.
 use Rattle.std.specs.Prelude.{◌≡◌, ℕ, zero, suc, ◌<◌, ◌≤◌, Bool, true, false, not, ◌&&◌, ◌||◌, List, [], ◌∷◌, ◌++◌, length, flat_map}
 use Rattle.std.specs.List.{IsDistinct}
 use Rattle.std.specs.Str.{bytes_eq}
@@ -43,7 +43,7 @@ names_there nexts (z ∷ zs) x y at names =
     ]
 
 module _ (nexts : Nexts) where
-  -- ---- within what is closed
+  -- ---- within a closed list
 
   module _ (whole : List (List ℕ)) (closed : Closed nexts whole) where
     new_within : (met before : List (List ℕ)) → ((x : List ℕ) → has before x ≡ true → has whole x ≡ true)
@@ -65,7 +65,7 @@ module _ (nexts : Nexts) where
           | inr is ↦ levels_within n (met ++ level) level (new_within met before within) y is
         ]
 
-  -- ---- without doubles
+  -- ---- without duplicates
 
   levels_apart : (n : ℕ) (met before : List (List ℕ)) (y : List ℕ) → has (by_levels n nexts met before) y ≡ true → has met y ≡ false
   unfolding by_levels
@@ -93,7 +93,7 @@ module _ (nexts : Nexts) where
 
   -- ---- closed themselves
 
-  -- all that the LEIs before and those that were found name was met or found
+  -- all that the LEIs of the level before and those that were found name was met or found
   record Closes (met before found : List (List ℕ)) : Type 0 where
     named : (y : List ℕ) → has (flat_map nexts before) y ≡ true → has (met ++ found) y ≡ true
     goes : (x y : List ℕ) → has found x ≡ true → has (nexts x) y ≡ true → has (met ++ found) y ≡ true

@@ -32,7 +32,7 @@ both false b is = cc
 each : (a b : Bool) → a ≡ true → b ≡ true → (a && b) ≡ true
 each a b first second = ap (λ t. t && b) first ∙ second
 
--- the test holds, or the cell is that of before
+-- the test holds, or the cell is as before
 either : {X G : Type 0} (test : Bool) (found before : X) → (test ≡ true → G) → G ⊎ (cond test found before ≡ before)
 either true found before same = inl (same refl)
 either false found before same = inr refl
@@ -149,7 +149,7 @@ module _ (whole old : Cells) where
     elsewhere = holder_elsewhere authority id (whole.holder authority id);
   }
 
-  -- ---- the same with equations for the key, for what was found and for the cells after it
+  -- ---- the same with equations for the key, for what was found and for the cells afterwards
 
   module _ (new : Cells) (key : CellKey) where
     pub copied_record : (lei : List ℕ) (seen : Seen RecCell) → key ≡ CellKey.Rec lei → seen ≡ whole.record_cell lei
@@ -182,7 +182,7 @@ module _ (whole old : Cells) where
         subst (IsCopied whole old new) (sym keys)
         (subst (λ (cells : Cells). IsCopied whole old cells (CellKey.Key authority id)) (sym (is ∙ ap (with_holder old authority id) from)) (holder_copied authority id))
 
--- ---- one cell more
+-- ---- one more cell
 
 same_then : (a b c : Cells) (key : CellKey) → SameAt a b key → SameAt b c key → SameAt a c key
 same_then a b c (CellKey.Rec lei) first second = first ∙ second
@@ -212,7 +212,7 @@ module _ (whole old new : Cells) (keys : List CellKey) (key : CellKey) (before :
   lacks_other other never (inr same) =
       lacks-same new old other same ∙ before.just other (λ at. never (Contains-append_left keys (key ∷ []) other at))
 
-  -- a view that has just some cells has just these and the one that was copied
+  -- a view that had exactly some cells has exactly these and the copied one
   pub has_just-more : HasJust new whole (keys ++ key ∷ [])
   has_just-more = record {
     has = λ other at. has_each other (Contains-push_cases keys key other at);
@@ -222,6 +222,6 @@ module _ (whole old new : Cells) (keys : List CellKey) (key : CellKey) (before :
 none_at : (key : CellKey) → Contains [] key → ⊥
 none_at key at = search rules
 
--- a view that lacks all cells has just none
+-- a view that lacks all cells has exactly no cells
 pub has_none : (part whole : Cells) → ((key : CellKey) → IsTrue (lacks part key)) → HasJust part whole []
 has_none part whole lacking = record { has = λ key at. absurd (none_at key at); just = λ key never. lacking key }

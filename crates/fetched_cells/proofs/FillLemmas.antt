@@ -1,4 +1,4 @@
--- What is added when cells are copied one after the other, and what is left to add.
+-- What is added when cells are copied one after another, and what is left to add.
 use Rattle.std.specs.Prelude.{◌≡◌, ◌+◌, ◌-◌, ◌<◌, ◌≤◌, ℕ, zero, suc, List, [], ◌∷◌, ◌++◌, length, map, take, drop}
 use Rattle.std.proofs.Common.{sym, ap, subst, ◌∙◌, arith, get_or, drop-cons, add-one}
 use Rattle.std.proofs.lemmas.List.{append-nil, append_assoc, drop_all, length-append, take_all}
@@ -11,7 +11,7 @@ use Rattle.fetched_cells.specs.Filling.{Adds, IsCopied}
 use Rattle.fetched_cells.specs.Maps.{cells_in}
 use Rattle.fetched_cells.proofs.CopyLemmas.{has_just-more}
 
--- ---- fronts of lists
+-- ---- prefixes of lists
 
 take-both : {X : Type 0} (n : ℕ) (xs ys : List X) → take n (xs ++ ys) ≡ take n xs ++ take (n - length xs) ys
 take-both {X} n [] ys =
@@ -33,7 +33,7 @@ module _ (whole : Cells) where
     rest = omega arith;
   }
 
-  -- without room
+  -- without room nothing is added
   pub adds_full : (old : Filling) (keys : List CellKey) → old.left ≡ 0 → Adds whole old old keys
   adds_full old keys full = record {
     more = λ before just. subst (HasJust (cells_in old.fetched) whole) (sym (ap (λ n. before ++ take n keys) full ∙ append-nil before)) just;
@@ -60,7 +60,7 @@ module _ (whole : Cells) where
 
 -- ---- what is left to add
 
--- whatever adds the rest from here on adds all from the start
+-- adding the rest from here completes adding all from the start
 pub record Goes (whole : Cells) (start now : Filling) (rest all : List CellKey) : Type 0 where
   pub goes : (last : Filling) → Adds whole now last rest → Adds whole start last all
 

@@ -1,4 +1,4 @@
--- What an item needs is among what is fetched for the cells that it names.
+-- What an item needs is among the cells that are fetched for the cells that it names.
 use Rattle.std.specs.Prelude.{◌≡◌, ℕ, List, [], ◌∷◌, ◌++◌, map, Bool, true, false, cond, Option, Some, None, slice_get}
 use Rattle.std.specs.List.{Contains, flat_map}
 use Rattle.std.specs.Str.{bytes_eq}
@@ -45,7 +45,7 @@ first_of x xs = Contains-append_left (x ∷ []) xs x (Contains-push [] x)
 later : {X : Type 0} (x : X) (xs : List X) (y : X) → Contains xs y → Contains (x ∷ xs) y
 later x xs y at = Contains-append_right (x ∷ []) xs y at
 
--- what stands in the list that one of them makes stands in the lists of all
+-- a member of the list that is mapped from one element is a member of the concatenation of all
 flat_map-contains : {X Y : Type 0} (f : X → List Y) (xs : List X) (x : X) (y : Y) → Contains xs x → Contains (f x) y → Contains (flat_map f xs) y
 flat_map-contains f [] x y at within = absurd (none_at x at)
 flat_map-contains f (first ∷ xs) x y at within = elim (Contains-append_cases (first ∷ []) xs x at) [
@@ -53,14 +53,14 @@ flat_map-contains f (first ∷ xs) x y at within = elim (Contains-append_cases (
   | inr there ↦ Contains-append_right (f first) (flat_map f xs) y (flat_map-contains f xs x y there within)
 ]
 
--- what stands in a list or in none stands in the list
+-- a member of the list or of the empty list is a member of the list
 chosen : {X : Type 0} (test : Bool) (xs : List X) (x : X) → Contains (cond test xs []) x → Contains xs x
 chosen true xs x at = at
 chosen false xs x at = absurd (none_at x at)
 
 -- ---- records
 
--- the LEI of a record cell that stands in a list of them
+-- the LEI of a record's cell that is in a list of such cells
 record RecordOf (leis : List (List ℕ)) (key : CellKey) : Type 0 where
   lei : List ℕ
   at : has leis lei ≡ true
@@ -82,7 +82,7 @@ record_there (x ∷ xs) lei at = elim (or_cases (bytes_eq lei x) (has xs lei) at
   | inr is ↦ later (CellKey.Rec x) (map CellKey.Rec xs) (CellKey.Rec lei) (record_there xs lei is)
 ]
 
--- the first one of a list, and of the successors that a view answers
+-- the first LEI of a list is in it, and so is the first of the successors that a view answers
 first_has : (leis : List (List ℕ)) (lei : List ℕ) → slice_get leis 0 ≡ Some lei → has leis lei ≡ true
 first_has [] lei is = absurd cc
 first_has (x ∷ xs) lei is =
@@ -119,7 +119,7 @@ module _ (cells : Cells) (key : CellKey) where
       (Contains-append_right (key_names (akey row)) (successor_names (successors_in row)) (CellKey.Rec lei)
       (record_there (successors_in row) lei at))
 
-  -- a record that a walk from a successor reaches
+  -- a record that a walk from a successor reaches is fetched
   of_near : (row : Row) (lei : List ℕ) → CellKey.Rec lei ≡ key → NamedBy (near nexts) (successors_in row) lei
       → Contains (fetched_keys cells (record_names row)) key
   of_near row lei is by = elim (or_cases (bytes_eq lei by.lei) (has (nearest nexts by.lei) lei) by.names) [
@@ -130,7 +130,7 @@ module _ (cells : Cells) (key : CellKey) where
         (subst (Contains (nearest_records cells by.lei)) is (record_there (nearest nexts by.lei) lei within)))
   ]
 
-  -- the first successor is one of them
+  -- the first successor is one of the successors
   one_of_all : (x y : List ℕ) → known (next_successor cells) x ≡ Some y → has (nexts x) y ≡ true
   one_of_all x y is = first_seen (cells.record_cell x) y is
 

@@ -1,4 +1,4 @@
--- Maps by LEIs and by texts after an insertion.
+-- Maps with LEIs or texts as keys, after an insertion.
 use Rattle.std.specs.Prelude.{◌≡◌, ℕ, List, Bool, true, false, ◌&&◌, cond, Option, Some, None, option_and_then}
 use Rattle.std.specs.BTreeMap.{BTreeMap, IsEmpty, Updates, UpdatesBy, get, get_by_text}
 use Rattle.std.specs.Borrow.{Bor}
@@ -21,13 +21,13 @@ bytes_same a b is = (bytes_eq-Decides a b).0 is
 pub bytes_itself : (a : List ℕ) → bytes_eq a a ≡ true
 bytes_itself a = (bytes_eq-Decides a a).1 refl
 
--- ---- by one LEI, or by one with texts beside it
+-- ---- by an LEI, or by LEIs with a text
 
 or_missing-put : {X : Type 0} (b : Bool) (found : Seen X) (old : Option (Seen X)) → or_missing (cond b (Some found) old) ≡ cond b found (or_missing old)
 or_missing-put true found old = refl
 or_missing-put false found old = refl
 
--- what is found after an insertion, by a test that equals the one of the keys
+-- what a lookup finds after an insertion, by a test that equals the comparison of the keys
 found-put : {X : Type 0} (now old : Option (Seen X)) (tied same : Bool) (found : Seen X) → now ≡ cond tied (Some found) old → tied ≡ same
     → or_missing now ≡ cond same found (or_missing old)
 found-put now old tied same found updates is =
@@ -73,7 +73,7 @@ pub text_at-empty : {Y X : Type 0} (map : BTreeMap (String Y) X) → IsEmpty map
 text_at-empty map none q = search (rules, none)
 
 module _ {Y X : Type 0} where
-  -- under the same text
+  -- with the same text as key
   pub text_at-update : (old new : BTreeMap (String Y) X) (text own : List ℕ) (x : X) → text ≡ own
       → UpdatesBy string_cmp (λ k. slice_cmp nat_cmp text (string_bytes k)) old new (Some x)
       → (q : List ℕ) → get_by_text new q ≡ cond (bytes_eq own q) (Some x) (get_by_text old q)
@@ -87,7 +87,7 @@ abbrev pub id_in : {Y : Type 0} → Option (Ids Y) → List ℕ → Option (Seen
 id_in ids id = option_and_then (λ ids. get_by_text ids id) ids
 
 module _ {Y Z : Type 0} where
-  -- an authority has its ids, as they were, with one more
+  -- an authority has its ids as before, and one more
   pub texts_at-insert : (old new : BTreeMap (String Z) (Ids Y)) (was : Option (Ids Y)) (more : Ids Y) (authority id : List ℕ) (found : Seen (List ℕ))
       → get_by_text old authority ≡ was
       → ((i : List ℕ) → get_by_text more i ≡ cond (bytes_eq id i) (Some found) (id_in was i))
@@ -102,7 +102,7 @@ module _ {Y Z : Type 0} where
         | false ↦ λ _. refl
       ] refl
 
-  -- an authority has its ids as they were
+  -- an authority has its ids as before
   pub texts_at-same : (old new : BTreeMap (String Z) (Ids Y)) (was : Option (Ids Y)) (ids : Ids Y) (authority : List ℕ)
       → get_by_text old authority ≡ was
       → ((i : List ℕ) → get_by_text ids i ≡ id_in was i)

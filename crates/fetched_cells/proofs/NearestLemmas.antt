@@ -1,4 +1,4 @@
--- LEIs that are found level by level, in byte order within a level.
+-- The LEIs that are found level by level, in byte order within a level.
 use Rattle.std.specs.Prelude.{◌≡◌, ℕ, zero, suc, ◌+◌, ◌<◌, ◌≤◌, Bool, true, false, not, cond, List, [], ◌∷◌, ◌++◌, length, take, drop, filter, flat_map}
 use Rattle.std.specs.BTreeSet.{insert_key}
 use Rattle.std.specs.Cmp.Lexicographic.{slice_cmp}
@@ -12,9 +12,9 @@ use Rattle.std.proofs.lemmas.List.Sums.{fold-append}
 use Rattle.successor_rules.specs.Chains.{Nexts}
 use Rattle.fetched_cells.specs.Nearest.{by_levels, new_ones, unmet}
 
--- ---- one LEI after the other
+-- ---- one LEI after another
 
--- a level to which LEIs were added that weren't met
+-- a level after those of the LEIs that weren't met were added
 abbrev pub with_unmet : List (List ℕ) → List (List ℕ) → List (List ℕ) → List (List ℕ)
 with_unmet met level leis = fold (insert_key (slice_cmp nat_cmp)) level (unmet met leis)
 
@@ -36,7 +36,7 @@ module _ (met level leis : List (List ℕ)) (i : ℕ) (lei : List ℕ) (less : i
   rest_is : drop i leis ≡ lei ∷ drop (i + 1) leis
   rest_is = rw add-one (drop-cons leis i lei less ∙ ap (λ x. x ∷ drop (suc i) leis) is)
 
-  -- one that was met adds nothing
+  -- an LEI that was met adds nothing
   pub unmet_past : is_member bytes_eq met lei ≡ true → with_unmet met level (drop i leis) ≡ with_unmet met level (drop (i + 1) leis)
   unmet_past old =
       ap (with_unmet met level) rest_is
@@ -48,7 +48,7 @@ module _ (met level leis : List (List ℕ)) (i : ℕ) (lei : List ℕ) (less : i
       ap (with_unmet met level) rest_is
       ∙ ap (λ b. fold (insert_key (slice_cmp nat_cmp)) level (cond (not b) (lei ∷ unmet met (drop (i + 1) leis)) (unmet met (drop (i + 1) leis)))) new
 
-  -- one that names others
+  -- an LEI adds those that it names and that weren't met
   pub names_one : (nexts : Nexts)
       → with_unmet met level (flat_map nexts (drop i leis)) ≡ with_unmet met (with_unmet met level (nexts lei)) (flat_map nexts (drop (i + 1) leis))
   names_one nexts =
@@ -57,7 +57,7 @@ module _ (met level leis : List (List ℕ)) (i : ℕ) (lei : List ℕ) (less : i
 
 -- ---- level by level
 
--- what is found so far, with what the levels after it have
+-- the LEIs that were found so far, followed by those of the next levels
 abbrev pub found_with : ℕ → Nexts → List (List ℕ) → List (List ℕ) → List (List ℕ)
 found_with n nexts met before = met ++ by_levels n nexts met before
 
@@ -73,13 +73,14 @@ module _ (nexts : Nexts) (met : List (List ℕ)) where
       let level = new_ones nexts met before in
       sym (append_assoc met level (by_levels n nexts (met ++ level) level))
 
--- after a level without a new LEI there is none
+-- after a level without a new LEI there are no new ones
 pub levels_end : (n : ℕ) (nexts : Nexts) (met : List (List ℕ)) → by_levels n nexts met [] ≡ []
 unfolding by_levels
 levels_end zero nexts met = refl
 levels_end (suc n) nexts met = levels_end n nexts (met ++ [])
 
--- the search after some levels: what was met, from which place on the last level's LEIs stand, and all that is looked for
+-- the search after some levels: what was met, the index from which it has the LEIs of the last level, and all LEIs to
+-- find
 pub record Searched (nexts : Nexts) (n : ℕ) (met : List (List ℕ)) (before : ℕ) (all : List (List ℕ)) : Type 0 where
   pub within : before ≤ length met
   pub goes : found_with n nexts met (drop before met) ≡ all
@@ -112,7 +113,7 @@ module _ (nexts : Nexts) (n : ℕ) (met : List (List ℕ)) (before : ℕ) (all :
 pub searched_all : (nexts : Nexts) (met : List (List ℕ)) (before : ℕ) (all : List (List ℕ)) → Searched nexts 0 met before all → take 202 met ≡ take 202 all
 searched_all nexts met before all old = ap (take 202) (sym (levels_none nexts met (drop before met)) ∙ old.goes)
 
--- what is looked for
+-- the LEIs to find, after the entity's own
 abbrev pub sought : Nexts → List ℕ → List (List ℕ)
 sought nexts own = own ∷ by_levels 201 nexts (own ∷ []) (own ∷ [])
 

@@ -1,4 +1,4 @@
--- LEIs in byte order: each once, and the same ones as in the list.
+-- LEIs in byte order: each once, and the same LEIs as in the list.
 use Rattle.std.specs.Prelude.{◌≡◌, ℕ, Bool, true, false, not, ◌&&◌, ◌||◌, List, [], ◌∷◌, ◌++◌, flat_map}
 use Rattle.std.specs.BTreeSet.{insert_key}
 use Rattle.std.specs.Cmp.Lexicographic.{slice_cmp}
@@ -18,11 +18,11 @@ use Rattle.successor_rules.proofs.AgreeLemmas.{text_laws}
 use Rattle.successor_rules.proofs.LevelLemmas.{has, same_text}
 use Rattle.fetched_cells.specs.Nearest.{in_order, new_ones, unmet}
 
--- an LEI at its place among others that are in order
+-- an LEI inserted at its place in a list in byte order
 abbrev put : List (List ℕ) → List ℕ → List (List ℕ)
 put leis lei = insert_key (slice_cmp nat_cmp) leis lei
 
--- ---- the same ones
+-- ---- the same LEIs
 
 put-has : (xs : List (List ℕ)) (k y : List ℕ) → has (put xs k) y ≡ (bytes_eq y k || has xs y)
 put-has [] k y = refl
@@ -126,9 +126,9 @@ pub new_ones-distinct : (nexts : Nexts) (met before : List (List ℕ)) → IsDis
 new_ones-distinct nexts met before =
     sorted-distinct (new_ones nexts met before) (order-sorted (unmet met (flat_map nexts before)))
 
--- ---- two lists without doubles
+-- ---- two lists without duplicates
 
--- what a list lacks is another than each of its members
+-- an LEI that a list lacks differs from each of its members
 none_is : (x : List ℕ) (ys : List (List ℕ)) → has ys x ≡ false → AllByRecursion (λ y. bytes_eq x y ≡ false) ys
 none_is x [] lacks = tt
 none_is x (y ∷ ys) lacks =

@@ -15,7 +15,7 @@ use Rattle.fetched_cells.proofs.CloseLemmas.{named_by, names_there}
 use Rattle.fetched_cells.proofs.OrderLemmas.{new_ones-has}
 use Rattle.fetched_cells.proofs.SpreadLemmas.{onward_names}
 
--- lists of the same LEIs name the same
+-- lists of the same LEIs name the same LEIs
 flat-same : (nexts : Nexts) (xs ys : List (List ℕ)) → ((x : List ℕ) → has xs x ≡ has ys x) → (y : List ℕ)
     → has (flat_map nexts xs) y ≡ has (flat_map nexts ys) y
 flat-same nexts xs ys same y =
@@ -23,7 +23,7 @@ flat-same nexts xs ys same y =
     (λ at. let by = named_by nexts xs y at in names_there nexts ys by.lei y (sym (same by.lei) ∙ by.at) by.names)
     (λ at. let by = named_by nexts ys y at in names_there nexts xs by.lei y (same by.lei ∙ by.at) by.names)
 
--- one level more has what the LEIs before and those of the levels so far name, unless it was met
+-- one more level has what the LEIs of the level before and those of the levels so far name, unless it was met
 levels-more : (n : ℕ) (nexts : Nexts) (met before : List (List ℕ)) (y : List ℕ) → has (by_levels (suc n) nexts met before) y
     ≡ ((has (flat_map nexts before) y || has (flat_map nexts (by_levels n nexts met before)) y) && not (has met y))
 unfolding by_levels
@@ -58,7 +58,7 @@ levels-more (suc n) nexts met before y =
     turn false false false = refl
 
 module _ (nexts : Nexts) (own : List ℕ) where
-  -- the walk goes on from all LEIs but the own one
+  -- the walk continues from all LEIs except the entity's own
   onward-all : (xs : List (List ℕ)) → has xs own ≡ false → (y : List ℕ) → has (next_level nexts own xs) y ≡ has (flat_map nexts xs) y
   onward-all xs none y =
       both_ways (has (next_level nexts own xs) y) (has (flat_map nexts xs) y)

@@ -1,5 +1,5 @@
--- If the walk by levels from the successors of a record ends, each LEI that it reaches is one of these successors, or it is
--- among those that are nearest to one of them.
+-- If the walk by levels from a record's successors ends, each LEI that it reaches is near one of them. It is this
+-- successor itself, or is among the LEIs that are nearest to it.
 use Rattle.std.specs.Prelude.{◌≡◌, ℕ, zero, suc, ◌≤◌, Bool, true, false, not, cond, ◌&&◌, ◌||◌, List, [], ◌∷◌, ◌++◌, length, Option, Some, None}
 use Rattle.std.specs.List.{flat_map}
 use Rattle.std.specs.Option.{option_map_or}
@@ -16,7 +16,7 @@ use Rattle.successor_rules.proofs.RiseLemmas.{levels-has, others-next, others-st
 use Rattle.fetched_cells.specs.Nearest.{nearest}
 use Rattle.fetched_cells.proofs.CloseLemmas.{Closed, NamedBy, named_by, names_there, nearest_closed}
 
--- a walk that ends is neither too long nor back
+-- a walk that ends is neither too wide nor back at the record
 ended_parts : (wide back : Bool) → cond wide Walked.Long (cond back Walked.Meets Walked.Ends) ≡ Walked.Ends → (wide ≡ false) × (back ≡ false)
 ended_parts true back is = absurd cc
 ended_parts false true is = absurd cc
@@ -33,7 +33,7 @@ onward_names nexts own x y at = by (bytes_eq x own) at
     by true is = absurd (false≢true is)
     by false is = is
 
--- levels stay within what is closed
+-- levels stay within a closed list
 levels_in : (n : ℕ) (nexts : Nexts) (own : List ℕ) (whole level : List (List ℕ)) → Closed nexts whole
     → ((x : List ℕ) → has level x ≡ true → has whole x ≡ true) → (y : List ℕ) → has (levels n nexts own level) y ≡ true → has whole y ≡ true
 unfolding levels
@@ -47,7 +47,7 @@ levels_in (suc n) nexts own whole level closed within y at =
           closed.goes by.lei z (within by.lei by.at) (onward_names nexts own by.lei z by.names)) y is
     ]
 
--- the members of a walk stay within what is closed
+-- the members of a walk stay within a closed list
 members_in : (n : ℕ) (next : Next) (whole : List (List ℕ)) → ((x y : List ℕ) → has whole x ≡ true → next x ≡ Some y → has whole y ≡ true)
     → (first : List ℕ) → has whole first ≡ true → (lei : List ℕ) → has (members n next first) lei ≡ true → has whole lei ≡ true
 unfolding members
@@ -137,7 +137,7 @@ module _ (nexts : Nexts) (own : List ℕ) (targets : List (List ℕ)) (ended : s
       let both = and_parts (has (levels 201 nexts own targets) lei) (not (bytes_eq lei own)) (sym (others-has 201 nexts own targets lei) ∙ within) in
       named_by (near nexts) targets lei (levels_in 201 nexts own around targets around_closed target_around lei both.0)
 
-  -- the same of a walk along one of those that each LEI names
+  -- the same for a walk along one of the LEIs that each LEI names
   pub member_near : (n : ℕ) (next : Next) → ((x y : List ℕ) → next x ≡ Some y → has (nexts x) y ≡ true)
       → (first : List ℕ) → has targets first ≡ true → (lei : List ℕ) → has (members n next first) lei ≡ true → NamedBy (near nexts) targets lei
   member_near n next one first at lei member =

@@ -13,7 +13,7 @@ use Rattle.fetched_cells.proofs.FillLemmas.{Goes, goes_full, goes_none, goes_on}
 
 -- ---- the first member and the others
 
--- the members after the first one, from what it names
+-- the cells of the members that follow the first, starting with the one that it names
 after : ℕ → (List ℕ → CellKey) → SeenNext → Option (List ℕ) → List CellKey
 after n cell answers named = map cell (option_map_or (members n (known answers)) named [])
 
@@ -41,7 +41,7 @@ left c less = omega arith
 
 module _ (whole : Cells) (cell : List ℕ → CellKey) (answers : SeenNext) (start now mid : Filling) (member : List ℕ) (all : List CellKey) (c : ℕ)
     (less : c < 200) (before : Goes whole start now (member_keys (200 - c) cell answers member) all) (added : Adds whole now mid (cell member ∷ [])) where
-  -- the members after this one are left
+  -- the cells of the members after this one are left to add
   stepped : Goes whole start mid (after (200 - (c + 1)) cell answers (held (answers member))) all
   stepped =
       goes_on whole start now (member_keys (200 - c) cell answers member) all mid (cell member ∷ []) (after (200 - (c + 1)) cell answers (held (answers member)))

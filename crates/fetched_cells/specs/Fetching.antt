@@ -1,4 +1,4 @@
--- Which cells are fetched for keys, and what a view of them alone answers. This project's profile.
+-- Which cells are fetched for keys, and what a view of these cells alone answers. This project's profile.
 use Rattle.std.specs.Prelude.{◌≡◌, List, [], ◌∷◌, ◌++◌, IsTrue, map, ⊤}
 use Rattle.std.specs.List.{Contains, flat_map}
 use Rattle.lei_code.specs.Texts.{Lei}
@@ -14,23 +14,24 @@ use Rattle.fetched_cells.specs.Nearest.{nearest}
 
 -- ---- which cells are fetched
 
--- The records of the first 201 different LEIs that the walk by levels reaches from the record of an LEI, as far as the
--- view knows it: level by level, and in byte order within a level.
+-- The records of the first 201 different LEIs that the walk by levels reaches from the record of an LEI. They come
+-- level by level, and in byte order within a level, as far as the view knows the walk.
 abbrev pub nearest_records : Cells → Lei → List CellKey
 nearest_records cells lei = map CellKey.Rec (nearest (known_nexts (next_successors cells)) lei)
 
--- The cells that a key brings with it. That of a record brings the records of its levels of successors, and the direct
--- parents of the walk of parents from it on, to 200 members and as far as the view knows it. No other key brings any.
+-- The cells that are fetched along with a key. For a record these are the records of its levels of successors, and then
+-- the cells of the walk of direct parents from it. That walk has up to 200 members, as far as the view knows it. For
+-- any other key there are none.
 abbrev pub brought : Cells → CellKey → List CellKey
 brought cells (CellKey.Rec lei) = nearest_records cells lei ++ parent_walk cells lei
 brought cells key = []
 
--- The cells that are fetched for keys, in their order: each key, and then the cells that it brings. A cell stands here
--- as often as it is named or walked to.
+-- The cells that are fetched for keys, in order: each key, followed by the cells that are fetched along with it. A cell
+-- occurs as often as it is named or reached.
 abbrev pub fetched_keys : Cells → List CellKey → List CellKey
 fetched_keys cells keys = flat_map (λ key. key ∷ brought cells key) keys
 
--- The walk by levels of an item ends, as far as the view knows it. Only a record has one.
+-- An item's walk by levels ends, as far as the view knows it. Only a record has such a walk.
 abbrev pub LevelsEnd : Cells → Readied → Type 0
 LevelsEnd cells (Readied.Good (Item.Record row)) =
     spread_out (known_nexts (next_successors cells)) (lei_in row) (successors_in row) ≡ Walked.Ends
@@ -38,7 +39,7 @@ LevelsEnd cells item = ⊤
 
 -- ---- a part of a view
 
--- Two views answer the same for the cell of this key.
+-- Two views answer the same for the cell with this key.
 abbrev pub SameAt : Cells → Cells → CellKey → Type 0
 SameAt a b (CellKey.Rec lei) = a.record_cell lei ≡ b.record_cell lei
 SameAt a b (CellKey.Rel start kind end) = a.relation start kind end ≡ b.relation start kind end
@@ -46,7 +47,7 @@ SameAt a b (CellKey.Exc lei category) = a.exception lei category ≡ b.exception
 SameAt a b (CellKey.Key authority id) = a.holder authority id ≡ b.holder authority id
 SameAt a b (CellKey.Act start kind) = a.active start kind ≡ b.active start kind
 
--- A view has just these cells of the whole: it answers for them as the whole does, and lacks all others.
+-- A view has exactly these cells of the whole: it answers for them as the whole does, and lacks all others.
 pub record HasJust (part whole : Cells) (keys : List CellKey) : Type 0 where
   pub has : (key : CellKey) → Contains keys key → SameAt part whole key
   pub just : (key : CellKey) → (Contains keys key → ⊥) → IsTrue (lacks part key)

@@ -1,4 +1,4 @@
--- A fetched view after cells were copied to it, as long as there was room.
+-- A fetched view after cells were copied into it, as long as there was room.
 use Rattle.std.specs.Prelude.{◌≡◌, ◌⊎◌, ◌-◌, ℕ, List, ◌++◌, length, map, take}
 use Rattle.lei_code.specs.Texts.{Lei}
 use Rattle.lei_records.specs.declared.view.CellKey.{CellKey}
@@ -9,18 +9,18 @@ use Rattle.fetched_cells.specs.declared.filling.Filling.{Filling}
 use Rattle.fetched_cells.specs.Fetching.{HasJust, SameAt}
 use Rattle.fetched_cells.specs.Maps.{cells_in}
 
--- The cell of a key was copied from the whole: it is as in the whole, and each other one is as before.
+-- The cell with this key was copied from the whole: it is as in the whole, and each other cell is as before.
 pub record IsCopied (whole old new : Cells) (key : CellKey) : Type 0 where
   pub here : SameAt new whole key
   pub elsewhere : (other : CellKey) → (other ≡ key) ⊎ SameAt new old other
 
--- The cells of these keys were copied in their order, as many as there was room for. Whatever cells stood there before,
--- these stand there too, and the room that is left is less by them.
+-- The cells with these keys were copied in order, as many as there was room for. The view has them in addition to the
+-- cells that it had before, and the room that is left is less by their number.
 pub record Adds (whole : Cells) (old new : Filling) (keys : List CellKey) : Type 0 where
   pub more : (before : List CellKey) → HasJust (cells_in old.fetched) whole before
       → HasJust (cells_in new.fetched) whole (before ++ take old.left keys)
   pub rest : new.left ≡ old.left - length keys
 
--- The cells of the first so many members of a walk, as far as the view knows it.
+-- The cells of the first n members of a walk, as far as the view knows it.
 abbrev pub member_keys : ℕ → (List ℕ → CellKey) → SeenNext → Lei → List CellKey
 member_keys n cell answers first = map cell (members n (known answers) first)

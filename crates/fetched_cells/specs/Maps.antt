@@ -1,4 +1,4 @@
--- What the maps of a fetched view answer, and what it answers after one more cell was put.
+-- What the maps of a fetched view answer, and what the view answers after one more cell was put in.
 use Rattle.std.specs.Prelude.{◌&&◌, Option, Some, None, if◌then◌else◌, option_and_then, ⊤}
 use Rattle.std.specs.BTreeMap.{BTreeMap, get_by, get_by_text}
 use Rattle.std.specs.Borrow.{Bor}
@@ -18,35 +18,35 @@ use Rattle.lei_records.specs.Exceptions.{is_same_category}
 use Rattle.lei_records.specs.Relations.{is_same_type}
 use Rattle.fetched_cells.specs.declared.fetched.Fetched.{Fetched}
 
--- ---- what is found in a map
+-- ---- what a map has
 
--- What stands under a key. A cell that was never put is missing.
+-- The answer for what a lookup found. A cell that was never put in is missing.
 abbrev pub or_missing : {X : Type 0} → Option (Seen X) → Seen X
 or_missing None = Seen.Missing
 or_missing (Some found) = found
 
--- What a map by an LEI has for this one.
+-- What a map with LEIs as keys has for this LEI.
 abbrev pub code_at : {X : Type 0} → BTreeMap Lei (Seen X) → Lei → Seen X
 code_at codes lei = or_missing (get_by (slice_cmp nat_cmp lei) codes)
 
--- What a map by an LEI and a text has for these.
+-- What a map with an LEI and a text in each key has for these.
 abbrev pub pair_at : {X : Type 0} → BTreeMap (Lei × Bor Text) (Seen X) → Lei → Text → Seen X
 pair_at pairs lei text = or_missing (get_by (λ key.
     ordering_then (slice_cmp nat_cmp lei key.0) (slice_cmp nat_cmp text key.1.now)) pairs)
 
--- What a map by a start, the text of a type and an end has for these.
+-- What a map with a start, the text of a type and an end in each key has for these.
 abbrev pub between_at : {X : Type 0} → BTreeMap (Lei × Bor Text × Lei) (Seen X) → Lei → Text → Lei → Seen X
 between_at relations start text end = or_missing (get_by (λ key.
     ordering_then (ordering_then (slice_cmp nat_cmp start key.0) (slice_cmp nat_cmp text key.1.now))
     (slice_cmp nat_cmp end key.2)) relations)
 
--- What a map of maps by texts has under two texts, if anything.
+-- What a map of maps with texts as keys has for two texts, if anything.
 abbrev pub texts_at : {X Y Z : Type 0} → BTreeMap (String Z) (BTreeMap (String Y) X) → Text → Text → Option X
 texts_at holders authority id = option_and_then (λ ids. get_by_text ids id) (get_by_text holders authority)
 
 -- ---- all cells
 
--- What a fetched view answers: what was put of each cell, and Missing for all others.
+-- What a fetched view answers: for each cell what was put in, and `Missing` for all others.
 abbrev pub cells_in : Fetched → Cells
 cells_in fetched = record {
   record_cell = λ lei. code_at fetched.records lei;
@@ -58,32 +58,32 @@ cells_in fetched = record {
 
 -- ---- with one more cell
 
--- The cells with what was found of a record.
+-- The cells with this answer for the record of an LEI.
 abbrev pub with_record : Cells → Lei → Seen RecCell → Cells
 with_record cells lei found = record cells {
   record_cell = λ own. if bytes_eq lei own then found else cells.record_cell own;
 }
 
--- The cells with what was found of the holder of an authority key.
+-- The cells with this answer for the holder of an authority key.
 abbrev pub with_holder : Cells → Text → Text → Seen Lei → Cells
 with_holder cells authority id found = record cells {
   holder = λ a i. if bytes_eq authority a && bytes_eq id i then found else cells.holder a i;
 }
 
--- The cells with what was found of a relationship.
+-- The cells with this answer for a relationship.
 abbrev pub with_relation : Cells → Lei → RelationType → Lei → Seen RelCell → Cells
 with_relation cells start kind end found = record cells {
   relation = λ s k e. if (bytes_eq start s && is_same_type kind k) && bytes_eq end e then found
       else cells.relation s k e;
 }
 
--- The cells with what was found of the active relationship of a start and a type.
+-- The cells with this answer for the active relationship with a start and a type.
 abbrev pub with_end : Cells → Lei → RelationType → Seen Lei → Cells
 with_end cells start kind found = record cells {
   active = λ s k. if bytes_eq start s && is_same_type kind k then found else cells.active s k;
 }
 
--- The cells with what was found of an exception.
+-- The cells with this answer for an exception.
 abbrev pub with_exception : Cells → Lei → ExceptionCategory → Seen ⊤ → Cells
 with_exception cells lei category found = record cells {
   exception = λ own other. if bytes_eq lei own && is_same_category category other then found

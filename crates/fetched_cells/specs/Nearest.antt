@@ -1,4 +1,5 @@
--- The LEIs that are nearest to an entity if each may name several next ones: level by level. This project's profile.
+-- The LEIs that are nearest to an entity if each LEI may name several next ones: level by level. This project's
+-- profile.
 use Rattle.std.specs.Prelude.{ℕ, zero, suc, not, List, [], ◌∷◌, ◌++◌, filter, flat_map, take}
 use Rattle.std.specs.BTreeSet.{insert_key}
 use Rattle.std.specs.Cmp.Lexicographic.{slice_cmp}
@@ -9,25 +10,27 @@ use Rattle.std.specs.Str.{bytes_eq}
 use Rattle.lei_code.specs.Texts.{Lei}
 use Rattle.successor_rules.specs.Chains.{Nexts}
 
--- Those of the LEIs that were not met before.
+-- Those of the LEIs that weren't met before.
 abbrev pub unmet : List Lei → List Lei → List Lei
 unmet met leis = filter (λ lei. not (is_member bytes_eq met lei)) leis
 
--- The different ones of the LEIs, in the order of their bytes.
+-- The different LEIs of the list, in byte order.
 abbrev pub in_order : List Lei → List Lei
 in_order leis = fold (insert_key (slice_cmp nat_cmp)) [] leis
 
--- The new LEIs of a level: those that the level before it names and that were not met, each once and in byte order.
+-- The new LEIs of a level: those that the level before it names and that weren't met, each once and in byte order.
 abbrev pub new_ones : Nexts → List Lei → List Lei → List Lei
 new_ones nexts met before = in_order (unmet met (flat_map nexts before))
 
--- The new LEIs of so many levels, level by level, after one of which the new LEIs are these.
+-- The new LEIs of the next n levels, level by level. `met` has the LEIs so far, and `before` the new ones of the level
+-- before.
 unfoldable pub by_levels : ℕ → Nexts → List Lei → List Lei → List Lei
 by_levels zero nexts met before = []
 by_levels (suc n) nexts met before =
     let level = new_ones nexts met before in level ++ by_levels n nexts (met ++ level) level
 
 -- The first 201 different LEIs of an entity's levels, other than its own: level by level, each at the first level that
--- has it, and in byte order within a level. A level without a new LEI has none after it, so 201 levels have them.
+-- has it, and in byte order within a level. After a level without a new LEI there are no new ones, so 201 levels have
+-- them all.
 abbrev pub nearest : Nexts → Lei → List Lei
 nearest nexts own = take 201 (by_levels 201 nexts (own ∷ []) (own ∷ []))

@@ -1,4 +1,4 @@
-//! A view of the cells that were copied to it.
+//! A view of the cells that were copied into it.
 ghost use Rattle.std.specs.Prelude.{◌≡◌, ◌&&◌, IsTrue, List, ℕ, Some, None, OnErr, OnOk, if◌then◌else◌, string_bytes};
 ghost use Rattle.std.specs.BTreeMap.{get_by_text};
 ghost use Rattle.std.specs.Str.{bytes_eq};
@@ -15,14 +15,14 @@ use lei_shapes::{ExceptionCategory, RelationType};
 use std::alloc::Global;
 use std::collections::BTreeMap;
 
-// By the id of an authority, what was found of the holder.
+// The ids of one authority, each with the answer for its holder.
 type Ids = BTreeMap<String, Seen<Lei>>;
 
 // The ids of each authority.
 type Holders = BTreeMap<String, Ids>;
 
-/// A view that has the cells that were copied to it, and answers `Missing` for all others. Types and categories have no
-/// order of their own, and stand by their texts.
+/// A view that has the cells that were copied into it, and answers `Missing` for all others. The keys of its maps have
+/// the texts of types and categories, because these have no order of their own.
 #[derive(Drop)]
 pub struct Fetched {
     alloc: Global,
@@ -87,7 +87,8 @@ impl Fetched {
         }
     }
 
-    /// Copies the cell of a key from another view. If that one lacks the cell, this one does too from then on.
+    /// Copies the cell with this key from another view. If that view lacks the cell, this one lacks it too from then
+    /// on.
     pub fn copy_cell<V: View>(&mut self, view: &V, key: &CellKey) -> Result<(), NoMemory>
         ensures copied { OnOk result
             (IsCopied (V.cells view.now) (cells_in self.old) (cells_in self.new) key.now) }
@@ -197,7 +198,7 @@ fn insert_holder(
     }
 }
 
-// Puts the first id of an authority.
+// Inserts an authority with its first id.
 fn insert_first(
     alloc: Global,
     holders: &mut Holders,

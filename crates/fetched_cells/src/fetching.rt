@@ -9,10 +9,10 @@ use lei_outside::NoMemory;
 use lei_records::{CellKey, View};
 use std::alloc::Global;
 
-/// A view of the cells of these keys and, for each record among them, of the first 201 different LEIs of its levels
-/// of successors and of the walk of direct parents from it, to 200 members, in this order. The LEIs of levels come
-/// level by level, and in byte order within a level. Of all these cells the first `most` are copied, and one that comes
-/// twice counts twice.
+/// A view of the cells with these keys. Two lists of cells follow each record among them. The first has the records of
+/// the first 201 different LEIs of its levels of successors. The second has the walk of direct parents from it, up to
+/// 200 members. The LEIs of levels come level by level, and in byte order within a level. Only the first `most` of all
+/// these cells are copied, and a cell that occurs twice counts twice.
 pub fn fetch<V: View>(
     alloc: Global,
     view: &V,

@@ -1,4 +1,4 @@
-//! A fetched view while cells are copied to it.
+//! A fetched view while cells are copied into it.
 ghost use Rattle.std.specs.Prelude.{◌≡◌, [], ◌∷◌, map, OnOk};
 ghost use Rattle.lei_records.specs.declared.view.CellKey.{CellKey};
 ghost use Rattle.cell_reads.specs.Needs.{parent_walk};
@@ -14,10 +14,10 @@ use relation_rules::ParentChain;
 use std::alloc::Global;
 use successor_rules::{Chain, SuccessorBranches};
 
-// The members of a walk that are looked at.
+// The most members of a walk that are visited.
 const MOST_MEMBERS: u8 = 200;
 
-/// A view, and for how many cells more there is room. A cell that is copied twice takes room twice.
+/// A view, and how many more cells there is room for. A cell that is copied twice takes up room twice.
 #[derive(Drop)]
 pub struct Filling {
     pub alloc: Global,
@@ -26,7 +26,8 @@ pub struct Filling {
 }
 
 impl Filling {
-    /// Copies the cells of the keys, each followed by those that it brings, as long as there is room.
+    /// Copies the cells with the keys, each followed by the cells that are fetched along with it, as long as there is
+    /// room.
     pub fn add_all<V: View>(&mut self, view: &V, keys: &[CellKey]) -> Result<(), NoMemory>
         ensures { OnOk result (Adds (V.cells view.now) self.old self.new
             (fetched_keys (V.cells view.now) keys.now)) }
@@ -51,7 +52,7 @@ impl Filling {
         }
     }
 
-    // The cells that the record of a code brings.
+    // Copies the cells that are fetched along with the record of an LEI.
     fn add_walks<V: View>(&mut self, view: &V, lei: &Lei) -> Result<(), NoMemory>
         ensures { OnOk result (Adds (V.cells view.now) self.old self.new
             (brought (V.cells view.now) (CellKey.Rec lei.now))) }
@@ -60,7 +61,7 @@ impl Filling {
         self.add_parents(view, lei)
     }
 
-    // The records of the LEIs that are nearest by levels.
+    // Copies the records of the LEIs that are nearest by levels.
     fn add_successors<V: View>(&mut self, view: &V, lei: &Lei) -> Result<(), NoMemory>
         ensures { OnOk result (Adds (V.cells view.now) self.old self.new
             (nearest_records (V.cells view.now) lei.now)) }
@@ -91,7 +92,7 @@ impl Filling {
         self.add_walk(view, &ParentChain { view }, lei)
     }
 
-    // The cells of the first 200 members of a walk.
+    // Copies the cells of the first 200 members of a walk.
     fn add_walk<V: View, C: Chain>(
         &mut self,
         view: &V,
@@ -116,7 +117,7 @@ impl Filling {
         Ok(())
     }
 
-    // One cell.
+    // Copies one cell, if there is room.
     fn add<V: View>(&mut self, view: &V, key: &CellKey) -> Result<(), NoMemory>
         ensures { OnOk result (Adds (V.cells view.now) self.old self.new (key.now ∷ [])) }
     {

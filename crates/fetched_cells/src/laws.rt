@@ -1,4 +1,4 @@
-//! Laws of what is fetched, each as the contract of an empty function.
+//! Laws about the cells that are fetched, each as the contract of an empty function.
 ghost use Rattle.std.specs.Prelude.{◌≡◌, ◌∷◌, [], ℕ, List};
 ghost use Rattle.std.specs.Cmp.Lexicographic.{slice_cmp};
 ghost use Rattle.std.specs.List.{Contains, IsDistinct};
@@ -18,18 +18,19 @@ ghost use Rattle.fetched_cells.specs.Fetching.{LevelsEnd, fetched_keys};
 ghost use Rattle.fetched_cells.specs.Nearest.{by_levels, in_order};
 
 /// Each cell that an item needs over a view, by whichever rules, is fetched from that view for the cells that the item
-/// names, if the walk by levels of a record ends there: it has at most 200 LEIs, and the record's own is none of them.
+/// names. For a record, its walk by levels must end there: it has at most 200 LEIs, and the record's own isn't one of
+/// them.
 ///
-/// What is fetched begins at each successor that is named. The levels of one of them have no other LEIs than the walk
-/// of the record, so the first 201 are all of them. If that walk comes back or is too wide, what is fetched may lack a
-/// cell that is needed, and the upload is judged in its turn.
+/// Fetching starts at each successor that the record names. The levels of a successor have no other LEIs than the walk
+/// of the record, so the first 201 are all of them. If that walk returns to the record or is too wide, what is fetched
+/// may lack a needed cell. The upload is then judged in its turn.
 pub fn needed_cells_are_fetched()
     ensures { (rules : Rules) (cells : Cells) (item : Readied) (key : CellKey) → LevelsEnd cells item
         → Contains (needs rules cells item) key → Contains (fetched_keys cells (names item)) key }
 {}
 
-/// The LEIs of so many levels from what an entity names are those of the walk by levels other than its own, and each of
-/// them stands there once. Those of a level stand in the order of their bytes.
+/// The LEIs of n levels from what an entity names are those of the walk by levels, other than its own. Each of them
+/// occurs once. Those of a level are in byte order.
 pub fn nearest_leis_are_those_of_levels()
     ensures members { (n : ℕ) (nexts : Nexts) (own lei : Lei)
         → is_member bytes_eq (by_levels n nexts (own ∷ []) (own ∷ [])) lei

@@ -1,4 +1,4 @@
-//! The LEIs that are nearest to an entity if each may name several next ones.
+//! The LEIs that are nearest to an entity if each LEI may name several next ones.
 ghost use Rattle.std.specs.Prelude.{◌≡◌, ◌≤◌, ◌∷◌, ◌++◌, drop, length, take, IfOk, OnOk};
 ghost use Rattle.std.specs.BTreeSet.{insert_key};
 ghost use Rattle.std.specs.Cmp.Lexicographic.{slice_cmp};
@@ -15,10 +15,10 @@ use std::alloc::Global;
 use std::collections::BTreeSet;
 use successor_rules::{Branches, is_among};
 
-// How many LEIs are looked for. So many levels have them if there are so many.
+// How many LEIs to find, and how many levels to search. This many levels have this many LEIs, if there are as many.
 const MOST_LEIS: usize = 201;
 
-/// An LEI, and after it the first 201 different LEIs of its levels other than itself: level by level, and in byte order
+/// An LEI, followed by the first 201 different LEIs of its levels other than itself: level by level, and in byte order
 /// within a level.
 pub fn nearest<B: Branches>(alloc: Global, branches: &B, own: &Lei) -> Result<Vec<Lei>, NoMemory>
     ensures { IfOk result (λ met. met.items
@@ -29,7 +29,7 @@ pub fn nearest<B: Branches>(alloc: Global, branches: &B, own: &Lei) -> Result<Ve
     Ok(met)
 }
 
-// The same with all LEIs of the level that has the last of them.
+// The same, but with all LEIs of the level that has the last of them.
 fn search<B: Branches>(alloc: Global, branches: &B, own: &Lei) -> Result<Vec<Lei>, NoMemory>
     ensures { IfOk result (λ met. take 202 met.items
         ≡ own.now ∷ Nearest.nearest (known_nexts (B.answers branches.now)) own.now) }
@@ -57,7 +57,7 @@ fn push_all(met: &mut Vec<Lei>, level: BTreeSet<Lei>) -> Result<(), NoMemory>
     Ok(())
 }
 
-// The new LEIs of a level. Those of the level before it are the ones that were met from this index on.
+// The new LEIs of the next level. The LEIs of the level before it are those in `met` from the index `before` on.
 fn next_level<B: Branches>(
     alloc: Global,
     branches: &B,

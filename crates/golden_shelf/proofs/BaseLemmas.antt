@@ -1,4 +1,4 @@
--- Bases: what is looked for from the back is the last, and what is kept of a trail has its moments.
+-- Bases: what a search from the back finds is the last, and what is kept for a trail has the trail's moments.
 use Rattle.std.proofs.Common.{◌≡◌, ℕ, suc, ◌+◌, ◌-◌, ◌<◌, ◌≤◌, ℤ, take, Bool, true, false, cond, ◌&&◌, subst, Option, None, Some, List, [], ◌∷◌, ◌++◌, length, refl, sym, ap, ◌∙◌, arith}
 use Rattle.std.specs.Prelude.{Err, IfErr, IfOk, MatchResult, Ok, Result, int_le, is_some, nat_le, unwrap_or}
 use Rattle.std.specs.List.{slice_get, slice_index_or}
@@ -11,7 +11,7 @@ use Rattle.golden_shelf.specs.declared.fault.ShelfFault.{ShelfFault}
 use Rattle.golden_shelf.specs.Bases.{aged, base_in, counted, last_moment, last_until, moments_in, moments_of, named, numbered}
 use Rattle.golden_shelf.specs.Shelves.{AreIssuesOf}
 
--- the last of moments with one more behind them
+-- the last moment within a bound, after one more moment was appended
 pub until_push : (bound : ℤ) (moments : List ℤ) (m : ℤ)
     → last_until bound (moments ++ m ∷ []) ≡ cond (int_le m bound) (Some (length moments + 1)) (last_until bound moments)
 until_push bound [] m = by (int_le m bound)
@@ -27,7 +27,7 @@ until_push bound (x ∷ moments) m =
     by true = ap Some (omega arith)
     by false = refl
 
--- the moment of the last is the last moment
+-- the moment of the last publication is the last moment
 pub last_is : (issues : List Issue) (latest : Issue) (base : Base) → Some latest ≡ slice_get issues (length issues - 1)
     → base_in (moments_in issues) base ≡ named (moments_in issues) latest.moment base
 last_is [] latest base at = absurd (false≢true (sym (ap is_some at)))
@@ -40,7 +40,7 @@ last_is (first ∷ later) latest base at = ap (λ m. named (moments_in (first �
         let e : length (first ∷ next ∷ later) - 1 ≡ suc (length (next ∷ later) - 1) = omega arith in
         by next later (at ∙ ap (slice_get (first ∷ next ∷ later)) e)
 
--- what is kept of a trail has its moments
+-- what is kept for a trail has the trail's moments
 pub same_moments : (issues : List Issue) (trail : Trail) → AreIssuesOf issues trail → moments_in issues ≡ moments_of trail
 same_moments [] [] are = refl
 same_moments [] (p ∷ trail) are = absurd are
@@ -48,7 +48,7 @@ same_moments (i ∷ issues) [] are = absurd are
 same_moments (i ∷ issues) (p ∷ trail) are =
     ap (λ m. m ∷ moments_in issues) are.0.moment_is ∙ ap (λ l. p.moment ∷ l) (same_moments issues trail are.1)
 
--- one step back
+-- one step of the search from the back
 pub until_step : (bound : ℤ) (issues : List Issue) (n : ℕ) (x : Issue) → 0 < n → n ≤ length issues → x ≡ slice_index_or issues (n - 1) x
     → last_until bound (moments_in (take n issues)) ≡ cond (int_le x.moment bound) (Some n) (last_until bound (moments_in (take (n - 1) issues)))
 until_step bound issues n x some most is =
@@ -65,7 +65,7 @@ until_step bound issues n x some most is =
     push_moment [] x = refl
     push_moment (i ∷ issues) x = ap (λ l. i.moment ∷ l) (push_moment issues x)
 
--- ---- what is named is among them
+-- ---- the number that is found is that of a publication
 
 until_within : (bound : ℤ) (moments : List ℤ) (n : ℕ) → last_until bound moments ≡ Some n → n ≤ length moments
 until_within bound [] n is = absurd (false≢true (ap is_some is))
@@ -124,16 +124,16 @@ pub found_some : (issues now : List Issue) (base : Base) (r : Result ℕ ShelfFa
 found_some issues now base r p same is ok none =
     false≢true (sym (ap fails (sym is ∙ ok)) ∙ ap (λ l. fails (base_in (moments_in l) base)) (same ∙ none))
 
--- ---- what is answered
+-- ---- the result for a base
 
--- a base that names none is refused so
+-- if a base names no publication, the reason is the same for the kept moments and the trail
 pub refused_so : {B : Type 0} (issues now : List Issue) (trail : Trail) (base : Base) (r : Result ℕ ShelfFault) (fault other : ShelfFault) → issues ≡ now
     → AreIssuesOf now trail → r ≡ base_in (moments_in issues) base → r ≡ Err fault → base_in (moments_of trail) base ≡ Err other
     → ◌≡◌ {A = Result B ShelfFault} (Err fault) (Err other)
 refused_so issues now trail base r fault other same are is err named_so =
     ap Err (ap (λ r. fault_in r fault) (sym err ∙ is ∙ ap (λ l. base_in (moments_in l) base) same ∙ ap (λ l. base_in l base) (same_moments now trail are) ∙ named_so))
 
--- and it isn't found
+-- a base that names a publication isn't refused
 pub not_found : (issues now : List Issue) (trail : Trail) (base : Base) (r : Result ℕ ShelfFault) (fault : ShelfFault) (p : ℕ) → issues ≡ now
     → AreIssuesOf now trail → r ≡ base_in (moments_in issues) base → r ≡ Err fault → base_in (moments_of trail) base ≡ Ok p → ⊥
 not_found issues now trail base r fault p same are is err found =
@@ -144,7 +144,7 @@ pub not_refused : (issues now : List Issue) (trail : Trail) (base : Base) (r : R
 not_refused issues now trail base r fault p same are is ok refused =
     false≢true (ap fails (sym ok ∙ is ∙ ap (λ l. base_in (moments_in l) base) same ∙ ap (λ l. base_in l base) (same_moments now trail are) ∙ refused))
 
--- what is found is the one
+-- the number that is found is the one that the base names
 pub found_so : (issues now : List Issue) (trail : Trail) (base : Base) (r : Result ℕ ShelfFault) (p q : ℕ) → issues ≡ now
     → AreIssuesOf now trail → r ≡ base_in (moments_in issues) base → r ≡ Ok p → base_in (moments_of trail) base ≡ Ok q → p ≡ q
 found_so issues now trail base r p q same are is ok found =

@@ -1,4 +1,4 @@
--- Deltas: keys that are sorted, each once, and what is joined of their lines.
+-- Deltas: sorted keys, each once, and what is joined from their lines.
 use Rattle.std.proofs.Common.{◌≡◌, ℕ, ℤ, zero, suc, ◌+◌, ◌-◌, ◌≤◌, ◌<◌, length-append, Bool, true, false, ◌||◌, cond, T, Option, None, Some, List, [], ◌∷◌, ◌++◌, length, map, take, drop, refl, sym, ap, subst, ◌∙◌, arith}
 use Rattle.std.specs.Prelude.{codes, option_map, replicate, unwrap_or}
 use Rattle.std.proofs.lemmas.Bool.{false≢true}
@@ -42,7 +42,7 @@ use Rattle.golden_shelf.proofs.Keeping.{find_lines, joined, under_keys}
 use Rattle.golden_shelf.proofs.SideLemmas.{tied}
 use Rattle.golden_shelf.proofs.Woven.{key_same}
 
--- ---- keys, sorted and each once
+-- ---- sorted keys, each once
 
 abbrev Order : TextKey → TextKey → Ordering
 Order x y = key_cmp (texts_in x) (texts_in y)
@@ -81,7 +81,7 @@ among_dedup : (k : KeyTexts) (xs : List TextKey) → is_among k (map texts_in (d
 among_dedup k [] = refl
 among_dedup k (x ∷ xs) = among_once k x xs
 
--- keys beside themselves
+-- each key paired with itself
 abbrev twins : List KeyTexts → List (KeyTexts × KeyTexts)
 twins ks = map (λ k. (k, k)) ks
 
@@ -100,7 +100,7 @@ firsts : (ks : List KeyTexts) → map (λ (e : KeyTexts × KeyTexts). e.0) (twin
 firsts [] = refl
 firsts (k ∷ ks) = ap (λ l. k ∷ l) (firsts ks)
 
--- each key beside itself is found by the keys alone
+-- a key paired with itself is found if and only if it is among the keys
 find_twins : (k : KeyTexts) (ks : List KeyTexts) → find key_cmp k (twins ks) ≡ cond (is_among k ks) (Some k) None
 find_twins k [] = refl
 find_twins k (j ∷ ks) = by (eq_by_cmp key_cmp k j) refl (find_twins k ks)
@@ -114,7 +114,7 @@ tells : (b : Bool) → T b → b ≡ true
 tells true t = refl
 tells false t = absurd t
 
--- keys that rise and are those that were touched stand in their order
+-- rising keys that are the touched keys are these in order
 in_order_is : (touched ks : List KeyTexts) → is_sorted key_cmp (twins ks) ≡ true → ((k : KeyTexts) → is_among k ks ≡ is_among k touched)
     → ks ≡ in_order touched
 in_order_is touched ks sorted same =
@@ -126,7 +126,7 @@ in_order_is touched ks sorted same =
     ∙ sym (get-from_entries key_total (twins touched) k) ∙ get-entries (from_entries {R = key_cmp} (twins touched)) k) in
     sym (firsts ks) ∙ ap (map (λ (e : KeyTexts × KeyTexts). e.0)) e
 
--- keys that were sorted, each once
+-- keys that were sorted, each once, are the touched keys in order
 pub ordered : (touched : List KeyTexts) (xs ys zs : List TextKey) → map texts_in xs ≡ touched → IsPermutation xs ys → IsSorted Order ys
     → IsFiltered (DiffersFromLast Same) [] ys zs → map texts_in zs ≡ in_order touched
 ordered touched xs ys zs are moved sorted once =
@@ -141,7 +141,7 @@ pub ordered_own : (P : TextKey → Type 0) (xs ys zs : List TextKey) → IsPermu
 ordered_own P xs ys zs moved once own =
     subst (All P) (sym (dedup_is Same ys zs once)) (All-dedup Same P ys (All-permutation P xs ys moved own))
 
--- ---- the keys behind a publication
+-- ---- the keys that changed after a publication
 
 drop_issues : (issues : List Issue) (trail : Trail) (n : ℕ) → AreIssuesOf issues trail → AreIssuesOf (drop n issues) (drop n trail)
 drop_issues issues trail zero are = are
@@ -157,7 +157,7 @@ changed_touched sheet (i ∷ issues) [] are = absurd are
 changed_touched sheet (i ∷ issues) (p ∷ trail) are =
     ap (λ l. l ++ changed_in sheet issues) (sym (are.0.touched_are sheet)) ∙ ap (λ l. p.touched sheet ++ l) (changed_touched sheet issues trail are.1)
 
--- all publications behind one are those up to the last
+-- all publications after one are those up to the last
 take_rest : {X : Type 0} (xs : List X) (n : ℕ) → take (length xs - n) (drop n xs) ≡ drop n xs
 take_rest xs n = take_all (length xs - n) (drop n xs) (let l = length-drop n xs in omega (arith, l))
 
@@ -175,7 +175,7 @@ keys_behind before (next ∷ later) (suc n) on sheet = keys_behind next later n 
 
 -- ---- what is joined
 
--- what a delta has of a key, by its line and by its row
+-- what a delta has for a key, by its line and by its row
 shown_change : (sheet : Sheet) (rows : List SheetRow) (k : KeyTexts)
     → shown_in sheet (map line_of rows) k ≡ rendered_change (change_of sheet rows k)
 shown_change sheet rows k =
@@ -197,7 +197,7 @@ map_texts : {X : Type 0} (g : KeyTexts → X) (keys : List TextKey) → map (λ 
 map_texts g [] = refl
 map_texts g (x ∷ keys) = ap (λ l. g (texts_in x) ∷ l) (map_texts g keys)
 
--- what is joined of the keys that were touched is what a delta has
+-- what is joined for the touched keys is what a delta has for them in order
 pub joined_changes : (sheet : Sheet) (lines : List Line) (keys : List TextKey) (issues : List Issue) (found : List Rendered)
     → map texts_in keys ≡ in_order (changed_in sheet issues) → found ≡ map (λ key. shown_in sheet lines (texts_in key)) keys
     → found ≡ map (shown_in sheet lines) (in_order (changed_in sheet issues))
@@ -218,12 +218,12 @@ changes_good sheet trail last n sound rows =
     subst (λ t. All (IsChangeOf sheet) (map (change_of sheet (last.rows sheet)) (in_order (touched_in sheet t)))) (sym (take_rest trail n))
     (are_changes sheet (last.rows sheet) (touched_in sheet (drop n trail)) rows.each (keys_behind nothing_published trail n sound sheet)).each
 
--- ---- keys that are collected, one behind the other
+-- ---- keys that are collected, one after the other
 
 rest_of : {X : Type 0} (xs : List X) (i : ℕ) (x : X) → i < length xs → x ≡ slice_index_or xs i x → drop i xs ≡ x ∷ drop (i + 1) xs
 rest_of xs i x lt is = drop_more xs i x lt ∙ ap (λ y. y ∷ drop (i + 1) xs) (sym is)
 
--- one more key is put
+-- one more key is appended, if it is of the sheet
 pub key_put : (sheet : Sheet) (out new : List TextKey) (all : List KeyTexts) (keys : List RowKey) (i : ℕ) (x : RowKey) → i < length keys
     → x ≡ slice_index_or keys i x → map texts_in new ≡ map texts_in out ++ map key_texts (filter (is_of sheet) (x ∷ []))
     → map texts_in out ++ map key_texts (filter (is_of sheet) (drop i keys)) ≡ all
@@ -239,7 +239,7 @@ key_put sheet out new all keys i x lt is put before =
     by true rest = refl
     by false rest = refl
 
--- the keys of one more publication are put
+-- the keys of one more publication are appended
 pub issue_put : (sheet : Sheet) (out new : List TextKey) (all : List KeyTexts) (issues : List Issue) (i : ℕ) (x : Issue) → i < length issues
     → x ≡ slice_index_or issues i x → map texts_in new ≡ map texts_in out ++ map key_texts (filter (is_of sheet) x.keys)
     → map texts_in out ++ changed_in sheet (drop i issues) ≡ all → map texts_in new ++ changed_in sheet (drop (i + 1) issues) ≡ all
@@ -251,7 +251,7 @@ issue_put sheet out new all issues i x lt is put before =
 pub none_left : {X : Type 0} (xs : List X) (i : ℕ) → length xs ≤ i → drop i xs ≡ []
 none_left xs i end = drop_all i xs end
 
--- ---- the row of a key that is dropped
+-- ---- the row of a dropped key
 
 pub key_wide : (sheet : Sheet) (k : RowKey) → is_of sheet k ≡ true → length (key_texts k) ≡ key_len sheet
 key_wide Sheet.Lei (RowKey.Rec lei) e = refl
@@ -273,7 +273,7 @@ one_more : {X : Type 0} (n : ℕ) (x : X) → replicate n x ++ x ∷ [] ≡ repl
 one_more zero x = refl
 one_more (suc n) x = ap (λ l. x ∷ l) (one_more n x)
 
--- one more empty text behind a key
+-- one more empty text after a key
 pub padded : {X : Type 0} (k texts new : List X) (n : ℕ) (x : X) → texts ≡ k ++ replicate (length texts - n) x → n ≤ length texts → new ≡ texts ++ x ∷ []
     → new ≡ k ++ replicate (length new - n) x
 padded k texts new n x made within push =
@@ -282,20 +282,20 @@ padded k texts new n x made within push =
     push ∙ ap (λ l. l ++ x ∷ []) made ∙ append_assoc k (replicate (length texts - n) x) (x ∷ [])
     ∙ ap (λ l. k ++ l) (one_more (length texts - n) x) ∙ ap (λ m. k ++ replicate m x) (sym m)
 
--- before any
+-- before the first empty text
 pub unpadded : {X : Type 0} (k texts : List X) (n : ℕ) (x : X) → texts ≡ k → length k ≡ n → texts ≡ k ++ replicate (length texts - n) x
 unpadded k texts n x is wide =
     let l : length texts ≡ length k = ap length is in
     let m : 0 ≡ length texts - n = omega (arith, l, wide) in
     is ∙ sym (append-nil k) ∙ ap (λ m. k ++ replicate m x) m
 
--- and when there are enough
+-- and when there are enough of them
 pub dropped_is : (sheet : Sheet) (k : KeyTexts) (texts : List Text) → texts ≡ k ++ replicate (length texts - key_len sheet) (codes "")
     → length texts ≡ width sheet → row_of sheet texts ≡ dropped_row sheet k
 dropped_is sheet k texts made wide =
     ap (row_of sheet) (made ∙ ap (λ n. k ++ replicate (n - key_len sheet) (codes "")) wide)
 
--- what was joined of the keys behind a publication
+-- what was joined for the keys that changed after a publication
 pub found_behind : (sheet : Sheet) (issues : List Issue) (sides : Sides) (now : Kept) (n : ℕ) (side : SideState) (slice : List Issue)
     (keys handed : List TextKey) (changes read : List TextChange) → kept_of issues sides ≡ now → slice ≡ issues → handed ≡ keys
     → map texts_in keys ≡ in_order (changed_in sheet (take (length slice - n) (drop n slice))) → side ≡ side_of sides sheet

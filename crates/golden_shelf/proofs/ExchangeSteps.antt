@@ -1,4 +1,4 @@
--- The steps over notes whose texts are exchanged for those of lines.
+-- The steps over notes whose texts are swapped with those of lines.
 use Rattle.std.proofs.Common.{◌≡◌, ℕ, zero, suc, ◌+◌, ◌<◌, ◌≤◌, Bool, true, false, ◌&&◌, cond, Option, None, Some, List, [], ◌∷◌, ◌++◌, length, map, take, drop, refl, sym, ap, ◌∙◌, arith}
 use Rattle.std.specs.Prelude.{is_some}
 use Rattle.std.specs.FinMap.Entries.{below_all, find, is_sorted}
@@ -59,7 +59,7 @@ texts_found lines k n texts sorted place is = is ∙ sym (find_at_place k lines 
 
 -- ---- all notes
 
--- a change finds what was there of another key
+-- a change doesn't affect what is found under another key
 find_other : (lines : List Line) (c d : LineChange) → is_lt (key_cmp c.0 d.0) ≡ true → find key_cmp d.0 (with_line lines c) ≡ find key_cmp d.0 lines
 find_other lines c d lt =
     find_with_line lines c d.0 ∙ ap (λ o. cond (is_eq o) c.1 (find key_cmp d.0 lines)) (back c.0 d.0 (less (key_cmp c.0 d.0) lt))
@@ -115,7 +115,7 @@ notes_step old lines new notes all changes later i x y lt takes next rising put 
     ∙ ap (λ l. take i (notes_of notes) ++ ((k, find key_cmp k lines) ∷ l)) (ap (λ l. replaced l later) put ∙ replaced_other lines (note_of x) later parts.0)
     ∙ ap (λ l. take i (notes_of notes) ++ replaced lines l) (sym next) ∙ takes
 
--- at the end
+-- at the end the lines are those after all changes
 pub lines_done : (old lines : List Line) (all : List LineChange) (n : ℕ) → length all ≤ n → with_lines lines (drop n all) ≡ with_lines old all
     → lines ≡ with_lines old all
 lines_done old lines all n end walk = ap (with_lines lines) (sym (drop_all n all end)) ∙ walk
@@ -127,7 +127,7 @@ notes_done old lines notes all n end within takes =
     ∙ ap (λ l. l ++ []) (sym (take_map note_of n notes ∙ ap (map note_of) (take_all n notes within)))
     ∙ ap (λ l. take n (notes_of notes) ++ replaced lines l) (sym (drop_all n all end)) ∙ takes
 
--- a place tells whether a key is there
+-- each place of the lines has texts
 texts_some : (lines : List Line) (n : ℕ) → n < length lines → is_some (texts_of lines n) ≡ true
 texts_some [] n lt = absurd (omega (arith, lt))
 texts_some (x ∷ lines) zero lt = refl

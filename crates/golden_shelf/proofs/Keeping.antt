@@ -1,4 +1,4 @@
--- Keeping: what becomes of a trail that is kept when a publication follows.
+-- Keeping: how a kept trail changes when a publication follows.
 use Rattle.std.proofs.Common.{◌≡◌, ℤ, Bool, true, false, ◌&&◌, ◌||◌, cond, Option, None, Some, List, [], ◌∷◌, T, map, refl, sym, ap, subst, ◌∙◌}
 use Rattle.std.specs.Prelude.{IfSome, IsTrue, is_some, option_map, unwrap_or}
 use Rattle.std.specs.Cmp.{tied_itself}
@@ -159,7 +159,7 @@ module _ (sheet : Sheet) where
   values_rows [] are = All-nil (IsRowOf sheet)
   values_rows (e ∷ es) are = All-cons (IsRowOf sheet) e.1 (map (λ (e : KeyTexts × SheetRow). e.1) es) are.0.row_is (values_rows es are.1)
 
--- the lines of rows are found by these
+-- the line under a key has the rendered texts of the row under it
 pub find_lines : (rows : List SheetRow) (k : KeyTexts) → find key_cmp k (map line_of rows) ≡ option_map rendered (find key_cmp k (under_keys rows))
 find_lines [] k = refl
 find_lines (x ∷ rows) k = by (eq_by_cmp key_cmp k (key x)) (find_lines rows k)
@@ -219,7 +219,7 @@ tells false t = absurd t
 
 -- ---- a sheet after changes
 
--- what there is to know of the rows after changes
+-- what is known of the rows after changes
 pub record AreNewRows (sheet : Sheet) (rows : List SheetRow) (ps : List Pair) (after_all : List SheetRow) : Type 0 where
   pub rows_are : AreRows sheet after_all
   pub found : (k : KeyTexts) → row_under after_all k ≡ after ps k (row_under rows k)
@@ -252,9 +252,9 @@ new_rows sheet rows ps are good =
           ∙ sym (find_lines (values m) k));
     }
 
--- ---- what all rows after changes are
+-- ---- a property of all rows after changes
 
--- a row is such where those of before are, and those of the changes
+-- the row under a key has a property if the earlier row and those of the changes have it
 after_such : (P : SheetRow → Type 0) (ps : List Pair) (k : KeyTexts) (found : Option SheetRow)
     → AllByRecursion (λ (p : Pair). IfSome p.1 P) ps → ((row : SheetRow) → found ≡ Some row → P row) → (row : SheetRow)
     → after ps k found ≡ Some row → P row
@@ -266,7 +266,7 @@ after_such P (p ∷ ps) k found such was row e =
     by true row e = some_of P p.1 row such.0 e
     by false row e = was row e
 
--- a row that is found under a key is one of the rows
+-- a row that is found under a key has a property of all rows
 found_such : (P : SheetRow → Type 0) (rows : List SheetRow) → All P rows → (k : KeyTexts) (row : SheetRow)
     → find key_cmp k (under_keys rows) ≡ Some row → P row
 found_such P [] all k row e = absurd (false≢true (ap is_some e))
@@ -276,7 +276,7 @@ found_such P (x ∷ rows) all k row e = by (found_such P rows (All-tail P x rows
     by later true e = subst P (ap (λ r. unwrap_or r x) e) (All-head P x rows all)
     by later false e = later e
 
--- and all rows are such where each is that is found
+-- and all rows have a property if each row that is found has it
 such_rows : (P : SheetRow → Type 0) (rows : List SheetRow) → AreRising (map key rows)
     → ((k : KeyTexts) (row : SheetRow) → find key_cmp k (under_keys rows) ≡ Some row → P row) → All P rows
 such_rows P rows rising each = listed rows (each_entry (λ k row. P row) (under_keys rows) (sorted_rows rows rising) each)
@@ -293,7 +293,7 @@ stay_such P sheet rows ps after_all are old such =
     (λ row e. found_such P rows old k row (sym (get-from_entries key_total (under_keys rows) k) ∙ e)) row
     (sym (are.found k) ∙ get-from_entries key_total (under_keys after_all) k ∙ e))
 
--- rows have nothing for the columns that only a wide file has
+-- the row has nothing in the columns that only a wide file has
 abbrev pub IsPlainRow : SheetRow → Type 0
 IsPlainRow row = IsTrue (fits false row)
 
@@ -304,12 +304,12 @@ plain_pairs (c ∷ changes) all = (all.0, plain_pairs changes all.1)
 
 -- ---- the publication that follows
 
--- a publication whose rows are such, and plain where it is narrow
+-- the rows of a publication are rows of their sheets, and plain if it is narrow
 pub record Stands (publication : Publication) : Type 0 where
   pub rows_are : (sheet : Sheet) → AreRows sheet (publication.rows sheet)
   pub plain : publication.wide ≡ false → All IsPlainRow (publication.rows Sheet.Lei)
 
--- what is narrow after another one shows that this was narrow
+-- if a publication is narrow, so is the one before it
 narrow_before : (before wide : Bool) → (before ≡ true → wide ≡ true) → wide ≡ false → before ≡ false
 narrow_before true wide widens narrow = absurd (false≢true (sym narrow ∙ widens refl))
 narrow_before false wide widens narrow = refl

@@ -1,4 +1,4 @@
--- Lines as keys and texts beside each other.
+-- Lines as keys and texts in two lists.
 use Rattle.std.proofs.Common.{◌≡◌, ℕ, zero, suc, ◌-◌, ◌≤◌, Option, None, Some, List, [], ◌∷◌, ◌++◌, length, map, refl, sym, ap, ◌∙◌, arith, length-append, Bor}
 use Rattle.std.specs.Prelude.{option_map, option_copied, reverse}
 use Rattle.std.specs.List.{slice_get}
@@ -49,7 +49,7 @@ popped keys front texts begin key t is are same =
         → length front ≡ length begin
     shorter front begin key t e = omega (arith, length-append front (key ∷ []), length-append begin (t ∷ []))
 
--- the key that was found last, by the lines
+-- the texts of the key at an index
 get_key : (keys : List RowKey) (n : ℕ) → option_map key_texts (slice_get keys n) ≡ slice_get (map key_texts keys) n
 get_key [] n = refl
 get_key (k ∷ keys) zero = refl
@@ -68,7 +68,7 @@ last_key keys texts found same is =
     ∙ ap (λ l. slice_get l (length keys - 1)) (sym (keys_lines keys texts same))
     ∙ ap (λ n. slice_get (map (λ (line : Line). line.0) (lines_in keys texts)) (n - 1)) (same ∙ sym (length_lines keys texts same))
 
--- the last of lines that lie in memory from the last to the first is the first of them
+-- the last item of a list; for lines in reverse order this is the first line
 get_last : {X : Type 0} (xs : List X) (x : X) (n : ℕ) → n ≡ length xs → slice_get (xs ++ x ∷ []) n ≡ Some x
 get_last [] x n is = ap (slice_get (x ∷ [])) is
 get_last (y ∷ xs) x n is = ap (slice_get (y ∷ xs ++ x ∷ [])) is ∙ get_last xs x (length xs) refl

@@ -1,4 +1,4 @@
--- Places of lines: a search between two places, and lines whose texts are exchanged.
+-- Places of lines: a search between two places, and lines whose texts are replaced.
 use Rattle.std.proofs.Common.{◌≡◌, ℕ, zero, suc, ◌+◌, ◌<◌, ◌≤◌, true, ◌&&◌, cond, Option, None, Some, List, [], ◌∷◌, length, map, take, drop, refl, sym, ap, subst, ◌∙◌, arith, Bor}
 use Rattle.std.specs.Prelude.{IfSome, is_some, nat_lt, option_map, unwrap_or}
 use Rattle.golden_shelf.proofs.LineParts.{length_lines}
@@ -34,14 +34,14 @@ key_at (x ∷ keys) [] n k same lt is = absurd (omega (arith, same))
 key_at (x ∷ keys) (t ∷ texts) zero k same lt is = ap (λ k. Some (key_texts k)) (sym is)
 key_at (x ∷ keys) (t ∷ texts) (suc n) k same lt is = key_at keys texts n k (omega (arith, same)) (omega (arith, lt)) is
 
--- a key before all of others is before that at a place
+-- a key before all of some lines is before the key at any of their places
 before_at : (k j : KeyTexts) (lines : List Line) (n : ℕ) → below_all key_cmp k lines ≡ true → key_of lines n ≡ Some j → key_cmp k j ≡ Ordering.Less
 before_at k j [] n e at = absurd_none j at
 before_at k j (x ∷ lines) zero e at =
     ap (key_cmp k) (sym (some_is x.0 j at)) ∙ less (key_cmp k x.0) (both (is_lt (key_cmp k x.0)) (below_all key_cmp k lines) e).0
 before_at k j (x ∷ lines) (suc n) e at = before_at k j lines n (both (is_lt (key_cmp k x.0)) (below_all key_cmp k lines) e).1 at
 
--- where the key at a place is before another one, so are those before it
+-- if the key at a place is before another one, so are all keys up to this place
 pub below_until : (k j : KeyTexts) (lines : List Line) (n : ℕ) → AreSorted lines → key_of lines n ≡ Some j → key_cmp k j ≡ Ordering.Greater
     → AreBelow k (take (n + 1) lines)
 below_until k j [] n sorted at gt = absurd_none j at
@@ -52,7 +52,7 @@ below_until k j (x ∷ lines) (suc n) sorted at gt =
     subst (λ m. AreBelow k (take m (x ∷ lines))) (sym one)
     (higher k j x.0 gt (back x.0 j (before_at x.0 j lines n parts.0 at)), below_until k j lines n parts.1 at gt)
 
--- where it is behind, so are those from it on
+-- if it is after the other one, so are all keys from this place on
 pub above_from : (k j : KeyTexts) (lines : List Line) (n : ℕ) → AreSorted lines → key_of lines n ≡ Some j → key_cmp k j ≡ Ordering.Less
     → below_all key_cmp k (drop n lines) ≡ true
 above_from k j [] n sorted at lt = absurd_none j at
@@ -63,11 +63,11 @@ above_from k j (x ∷ lines) zero sorted at lt =
 above_from k j (x ∷ lines) (suc n) sorted at lt =
     above_from k j lines n (both (below_all key_cmp x.0 lines) (is_sorted key_cmp lines) sorted).1 at lt
 
--- where it is the same, it is found
+-- if it is the same, the other key is at this place
 pub same_at : (k j : KeyTexts) (lines : List Line) (n : ℕ) → key_of lines n ≡ Some j → key_cmp k j ≡ Ordering.Equal → key_of lines n ≡ Some k
 same_at k j lines n at eq = at ∙ ap Some (sym (key_same k j eq))
 
--- between those before a key and those behind it there is none
+-- if each line is before a key or after it, the key isn't found
 pub nowhere : (k : KeyTexts) (lines : List Line) (low high : ℕ) → high ≤ low → low ≤ high → AreBelow k (take low lines)
     → below_all key_cmp k (drop high lines) ≡ true → find key_cmp k lines ≡ None
 nowhere k lines low high more less below above =
@@ -79,7 +79,7 @@ nowhere k lines low high more less below above =
     by (x ∷ lines) (suc n) below above =
         ap (λ o. cond (is_eq o) (Some x.1) (find key_cmp k lines)) below.0 ∙ by lines n below.1 above
 
--- what is found at a place
+-- what is found under the key at a place
 pub find_at_place : (k : KeyTexts) (lines : List Line) (n : ℕ) → AreSorted lines → key_of lines n ≡ Some k → find key_cmp k lines ≡ texts_of lines n
 find_at_place k [] n sorted at = absurd_none k at
 find_at_place k (x ∷ lines) zero sorted at =
@@ -90,7 +90,7 @@ find_at_place k (x ∷ lines) (suc n) sorted at =
     ap (λ o. cond (is_eq o) (Some x.1) (find key_cmp k lines)) (back x.0 k (before_at x.0 k lines n parts.0 at))
     ∙ find_at_place k lines n parts.1 at
 
--- the texts at a place
+-- the texts at a place, from the list of texts
 pub texts_at_place : (keys : List RowKey) (texts : List RowTexts) (n : ℕ) → length keys ≡ length texts
     → texts_of (lines_in keys texts) n ≡ slice_get texts n
 texts_at_place [] [] n same = refl
@@ -99,7 +99,7 @@ texts_at_place (x ∷ keys) [] n same = absurd (omega (arith, same))
 texts_at_place (x ∷ keys) (t ∷ texts) zero same = refl
 texts_at_place (x ∷ keys) (t ∷ texts) (suc n) same = texts_at_place keys texts n (omega (arith, same))
 
--- ---- texts that are exchanged
+-- ---- texts that are replaced
 
 pub exchanged : (keys : List RowKey) (texts : List RowTexts) (n : ℕ) (t : RowTexts) → length keys ≡ length texts
     → lines_in keys (slice_set texts n t) ≡ with_texts (lines_in keys texts) n t
@@ -108,7 +108,7 @@ exchanged (x ∷ keys) [] n t same = absurd (omega (arith, same))
 exchanged (x ∷ keys) (u ∷ texts) zero t same = refl
 exchanged (x ∷ keys) (u ∷ texts) (suc n) t same = ap (λ l. (key_texts x, u) ∷ l) (exchanged keys texts n t (omega (arith, same)))
 
--- other texts where a key stands are the line of a change of this key
+-- other texts at the place of a key result from a change of this key
 pub put_there : (k : KeyTexts) (lines : List Line) (n : ℕ) (t : RowTexts) → AreSorted lines → key_of lines n ≡ Some k
     → with_texts lines n t ≡ put key_cmp k t lines
 put_there k [] n t sorted at = absurd_none k at
@@ -125,7 +125,7 @@ length_with_texts [] n t = refl
 length_with_texts (x ∷ lines) zero t = refl
 length_with_texts (x ∷ lines) (suc n) t = ap suc (length_with_texts lines n t)
 
--- the texts that were there
+-- the texts that were there before
 pub found_texts : (keys : List RowKey) (texts : List RowTexts) (n : ℕ) (t d : RowTexts) → length keys ≡ length texts → n < length texts
     → t ≡ slice_index_or texts n d → Some t ≡ texts_of (lines_in keys texts) n
 found_texts [] [] n t d same lt is = absurd (omega (arith, lt))
@@ -134,19 +134,19 @@ found_texts (x ∷ keys) [] n t d same lt is = absurd (omega (arith, lt))
 found_texts (x ∷ keys) (u ∷ texts) zero t d same lt is = ap Some is
 found_texts (x ∷ keys) (u ∷ texts) (suc n) t d same lt is = found_texts keys texts n t d (omega (arith, same)) (omega (arith, lt)) is
 
--- the key at a place of lines that are seen whole
+-- the key at a place, from the slice of keys
 pub place_key : (lines : List Line) (keys ks : List RowKey) (texts : List RowTexts) (n : ℕ) (x : RowKey) → lines_in keys texts ≡ lines → ks ≡ keys
     → length keys ≡ length texts → n < length ks → x ≡ slice_index_or ks n x → key_of lines n ≡ Some (key_texts x)
 place_key lines keys ks texts n x view same even lt is =
     ap (λ l. key_of l n) (sym view) ∙ ap (λ l. key_of (lines_in l texts) n) (sym same)
     ∙ key_at ks texts n x (ap length same ∙ even) lt is
 
--- the lines are as many as the keys
+-- there are as many lines as keys
 pub place_count : (lines : List Line) (keys ks : List RowKey) (texts : List RowTexts) → lines_in keys texts ≡ lines → ks ≡ keys
     → length keys ≡ length texts → length lines ≡ length ks
 place_count lines keys ks texts view same even = sym (ap length view) ∙ length_lines keys texts even ∙ sym even ∙ sym (ap length same)
 
--- what is found of a key that stands at a place
+-- what is found under a key whose place is known
 pub under_place : (k : KeyTexts) (lines : List Line) (n : ℕ) (found : Option (Bor RowTexts)) → AreSorted lines → IsPlaceOf k lines (Some n)
     → option_map (λ (t : Bor RowTexts). t.now) found ≡ texts_of lines n → option_map (λ (t : Bor RowTexts). t.now) found ≡ find key_cmp k lines
 under_place k lines n found sorted place is = is ∙ sym (find_at_place k lines n sorted place.1)
@@ -161,7 +161,7 @@ there_is [] n x lt is = absurd (omega (arith, lt))
 there_is (y ∷ xs) zero x lt is = ap Some is
 there_is (y ∷ xs) (suc n) x lt is = there_is xs n x (omega (arith, lt)) is
 
--- what a slice gives of a place that it has
+-- what a slice returns for an index that it has
 pub got : {X : Type 0} (xs : List X) (n : ℕ) (found : Option (Bor X)) → n < length xs → is_some found ≡ nat_lt n (length xs)
     → IfSome found (λ x. x.now ≡ slice_index_or xs n x.now) → option_map (λ (t : Bor X). t.now) found ≡ slice_get xs n
 got xs n None lt some is = absurd (false≢true (some ∙ lt-ltb n (length xs) lt))

@@ -41,7 +41,7 @@ pub latest_push : (trail : Trail) (next : Publication) → latest (trail ++ next
 latest_push [] next = refl
 latest_push (first ∷ later) next = ap Some (last_pushed first later next)
 
--- it is the last behind what stands before the first
+-- it is the last one if `nothing_published` comes before the first
 latest_is : (trail : Trail) → last_behind nothing_published trail ≡ latest_or_nothing trail
 latest_is [] = refl
 latest_is (first ∷ later) = refl
@@ -55,7 +55,7 @@ last_stands : (before : Publication) (trail : Trail) → Stands before → Follo
 last_stands before [] stands on = stands
 last_stands before (p ∷ later) stands on = last_stands p later (record { rows_are = on.0.rows_are; plain = on.0.plain }) on.1
 
--- the latest publication of a sound trail, and what stands before its first
+-- the rows of the latest publication of a sound trail are rows of their sheets, and plain if it is narrow
 latest_stands : (trail : Trail) → IsSound trail → Stands (latest_or_nothing trail)
 latest_stands trail sound =
     subst Stands (latest_is trail)
@@ -84,7 +84,7 @@ length_issues [] (p ∷ trail) are = absurd are
 length_issues (i ∷ issues) [] are = absurd are
 length_issues (i ∷ issues) (p ∷ trail) are = ap suc (length_issues issues trail are.1)
 
--- what the last issue has of the latest publication
+-- what the last issue has is what the latest publication has
 latest_of : {X : Type 0} (f : Issue → X) (g : Publication → X) → ((issue : Issue) (p : Publication) → IsIssueOf issue p → f issue ≡ g p)
     → (issues : List Issue) (trail : Trail) → AreIssuesOf issues trail
     → option_map f (slice_get issues (length issues - 1)) ≡ option_map g (latest trail)
@@ -106,7 +106,7 @@ latest_width : (issues : List Issue) (trail : Trail) → AreIssuesOf issues trai
     → option_map (λ (i : Issue). i.wide) (slice_get issues (length issues - 1)) ≡ option_map (λ (p : Publication). p.wide) (latest trail)
 latest_width = latest_of (λ i. i.wide) (λ p. p.wide) (λ i p is. is.wide_is)
 
--- so what may follow the issues may follow the publications
+-- so if a width may follow the issues, it may follow the publications
 may_widen : (issues : List Issue) (trail : Trail) (wide : Bool) → AreIssuesOf issues trail → MayFollow issues wide
     → (latest_or_nothing trail).wide ≡ true → wide ≡ true
 may_widen issues trail wide are may =
@@ -118,7 +118,7 @@ may_widen issues trail wide are may =
     by None (Some p) e may is = absurd (false≢true (ap is_some e))
     by (Some i) (Some p) e may is = may (ap (λ o. unwrap_or o i.wide) e ∙ is)
 
--- and the other way round
+-- and conversely
 pub may_follow : (trail : Trail) (kept : Kept) (wide : Bool) → Keeps trail kept → ((latest_or_nothing trail).wide ≡ true → wide ≡ true)
     → MayFollow kept.issues wide
 may_follow trail kept wide keeps may =
@@ -215,7 +215,7 @@ keeps_next trail kept new changes issue next own may plain is issues keys lines 
           ∙ (step.0 sheet).lines_are ∙ ap (λ o. map line_of ((unwrap_or o nothing_published).rows sheet)) (sym (latest_push trail next));
     }
 
--- ---- what is read of a shelf
+-- ---- what is read from a shelf
 
 pub kept_lines : (issues : List Issue) (sides : Sides) (sheet : Sheet) → (side_of sides sheet).lines ≡ lines_of (kept_of issues sides) sheet
 kept_lines issues sides Sheet.Lei = refl
@@ -233,7 +233,7 @@ rows_kept issues sides now trail last sheet texts view keeps is are =
     are ∙ ap (map (λ (line : Line). line.1)) (kept_lines issues sides sheet ∙ ap (λ k. lines_of k sheet) view ∙ keeps.lines_are sheet)
     ∙ texts_of_rows (latest_rows trail sheet) ∙ ap (λ o. map rendered ((unwrap_or o nothing_published).rows sheet)) is
 
--- the files of the latest publication are wide where those of its issue are
+-- the files of the latest publication are wide if and only if its issue says so
 pub wide_told : (issues : List Issue) (now : List Issue) (trail : Trail) (last : Publication) (sheet : Sheet) (form : Form) (issue : Issue)
     → issues ≡ now → AreIssuesOf now trail → latest trail ≡ Some last → Some issue ≡ slice_get issues (length issues - 1)
     → (issue.wide && may_be_wide sheet form) ≡ is_wide_in last sheet form

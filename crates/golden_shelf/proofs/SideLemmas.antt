@@ -1,4 +1,4 @@
--- Sides: what is kept of the lines and notes of a sheet, and changes that are taken back.
+-- Sides: what holds for the lines and notes of a sheet, and changes that are taken back.
 use Rattle.std.proofs.Common.{◌≡◌, ℕ, suc, ◌+◌, ◌≤◌, Bool, true, false, ◌&&◌, ◌||◌, cond, Option, None, Some, List, [], ◌∷◌, ◌++◌, T, length, take, drop, refl, sym, ap, subst, ◌∙◌, arith}
 use Rattle.std.specs.Prelude.{not}
 use Rattle.std.specs.FinMap.Entries.{below_all, find, find-put, find-where_key, is_sorted, same_entries}
@@ -31,7 +31,7 @@ more_room rows rest newer later notes same alike more rooms are =
 
 -- ---- what is found after changes
 
--- what is there under a key after changes, where this was there before
+-- what is found under a key after changes, computed from what was found before
 abbrev pub after : {X : Type 0} → List (KeyTexts × Option X) → KeyTexts → Option X → Option X
 after [] k found = found
 after (p ∷ ps) k found = after ps k (cond (eq_by_cmp key_cmp k p.0) p.1 found)
@@ -67,7 +67,7 @@ equal Ordering.Greater e = absurd (false≢true e)
 pub tied : (j k : KeyTexts) → eq_by_cmp key_cmp j k ≡ true → j ≡ k
 tied j k e = key_same j k (equal (key_cmp j k) e)
 
--- a key is among those of changes
+-- whether a key is among those of changes
 abbrev pub is_changed : {X : Type 0} → KeyTexts → List (KeyTexts × Option X) → Bool
 is_changed k [] = false
 is_changed k (p ∷ ps) = eq_by_cmp key_cmp k p.0 || is_changed k ps
@@ -121,7 +121,7 @@ rising_replaced lines cs rising = same lines cs ∙ rising
 
 -- ---- a side after changes
 
--- a list that is overwritten whole
+-- a list that is overwritten completely
 filled : (items new : List Note) (k : ℕ) → k ≡ length items → length new ≡ length items → take k (new ++ drop (length new) items) ≡ new
 filled items new k is same =
     ap (λ l. take k (new ++ l)) (drop_all (length new) items (omega (arith, same)))
@@ -131,7 +131,7 @@ length_replaced : (lines : List Line) (items : List Note) → length (replaced l
 length_replaced lines [] = refl
 length_replaced lines (x ∷ items) = ap suc (length_replaced lines items)
 
--- what the walk leaves is a side
+-- the walk results in a side
 pub put_side : (rows rest newer later : LinesState) (handed new items : List Note) (k : ℕ) → handed ≡ items → k ≡ length items
     → newer.lines ≡ with_lines rows.lines (notes_of handed) → later.lines ≡ [] → notes_of new ≡ replaced rows.lines (notes_of handed)
     → length new ≡ length handed → length newer.lines ≤ length rows.lines + length handed → newer.room ≡ rows.room → later.room ≡ rest.room
@@ -153,7 +153,7 @@ put_side rows rest newer later handed new items k same is lines none notes len f
       rooms = omega (arith, room, later_room, rooms);
     }
 
--- and its lines are changed, and its notes take that back
+-- its lines are changed, and its notes undo that
 pub put_changed : (now : SideState) (rows newer : LinesState) (handed new items : List Note) (k room : ℕ) → rows.lines ≡ now.lines
     → handed ≡ items → k ≡ length items → newer.lines ≡ with_lines rows.lines (notes_of handed)
     → notes_of new ≡ replaced rows.lines (notes_of handed) → length new ≡ length handed → AreSorted rows.lines
@@ -169,7 +169,7 @@ put_changed now rows newer handed new items k room same_rows same is lines notes
           ∙ taken_back rows.lines (notes_of items) sorted ∙ same_rows;
     }
 
--- what the walk back leaves is a side without notes
+-- the walk back results in a side without notes
 pub back_side : (rows rest newer later : LinesState) (notes : List LineChange) (handed : List Note) → notes_of handed ≡ notes
     → newer.lines ≡ with_lines rows.lines (notes_of handed) → later.lines ≡ [] → length newer.lines ≤ length rows.lines + length handed
     → newer.room ≡ rows.room → later.room ≡ rest.room → AreSide rows rest notes → AreSide newer later []

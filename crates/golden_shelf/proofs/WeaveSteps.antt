@@ -23,14 +23,14 @@ pub push_map : {X Y : Type 0} (f : X → Y) (xs : List X) (x : X) → map f (xs 
 push_map f [] x = refl
 push_map f (y ∷ xs) x = ap (λ l. f y ∷ l) (push_map f xs x)
 
--- the change of the next note stands first among those that are left
+-- the change of the next note is the first of those that are left
 pub next_note : (notes : List Note) (i : ℕ) (x : Note) → i < length notes → x ≡ slice_index_or notes i x
     → drop i (notes_of notes) ≡ note_of x ∷ drop (i + 1) (notes_of notes)
 next_note notes i x lt is =
     drop_map note_of i notes ∙ ap (map note_of) (drop_more notes i x lt ∙ ap (λ y. y ∷ drop (i + 1) notes) (sym is))
     ∙ ap (λ l. note_of x ∷ l) (sym (drop_map note_of (i + 1) notes))
 
--- and the first of those that are left is the first of all that were
+-- and it is the first of those that are left of all changes
 pub next_left : (notes : List Note) (all : List LineChange) (i : ℕ) (x : Note) → i < length notes → x ≡ slice_index_or notes i x
     → drop i (notes_of notes) ≡ drop i all → i < length all → drop i all ≡ note_of x ∷ drop (i + 1) all
 next_left notes all i x lt is left within =
@@ -88,7 +88,7 @@ left_step notes all i x y lt is left within =
     tail_of [] = []
     tail_of (x ∷ xs) = xs
 
--- at the end of the walk
+-- at the end of the walk the lines are those after all changes
 pub walked : (lines rows rest raised : List Line) (all : List LineChange) (n : ℕ) → length all ≤ n
     → rows ++ woven rest (drop n all) ≡ woven lines all → raised ≡ rows ++ rest → AreSorted lines → AreRisingChanges all
     → raised ≡ with_lines lines all

@@ -1,4 +1,4 @@
--- Lines and their changes, walked side by side.
+-- Lines and their changes, gone through together.
 use Rattle.std.proofs.Common.{◌≡◌, Bool, true, false, ◌&&◌, cond, None, Some, List, [], ◌∷◌, ◌++◌, T, refl, sym, ap, subst, ◌∙◌}
 use Rattle.std.specs.Prelude.{not}
 use Rattle.std.specs.FinMap.Entries.{below_all, by_order, find, is_sorted, put, where_key, is_sorted-put, is_sorted-where_key}
@@ -34,7 +34,7 @@ turned j k e = key_total.antisymm k j ∙ ap ordering_reverse e
 pub back : (j k : KeyTexts) → key_cmp j k ≡ Ordering.Less → key_cmp k j ≡ Ordering.Greater
 back j k e = key_total.antisymm k j ∙ ap ordering_reverse e
 
--- what is above a key is above those below it
+-- a key above another one is above those below that one
 pub higher : (m k j : KeyTexts) → key_cmp m k ≡ Ordering.Greater → key_cmp k j ≡ Ordering.Greater → key_cmp m j ≡ Ordering.Greater
 higher m k j a b = back j m (key_total.trans j k m (turned k j b) (turned m k a))
 
@@ -113,9 +113,9 @@ pub sorted_with_lines : (lines : List Line) (cs : List LineChange) → AreSorted
 sorted_with_lines lines [] sorted = sorted
 sorted_with_lines lines (c ∷ cs) sorted = sorted_with_lines (with_line lines c) cs (sorted_with_line lines c sorted)
 
--- ---- the walk comes to the changed lines
+-- ---- the walk results in the changed lines
 
--- each line stands before a key
+-- each line is before a key
 abbrev pub AreBelow : KeyTexts → List Line → Type 0
 AreBelow k lines = AllByRecursion (λ line. key_cmp k line.0 ≡ Ordering.Greater) lines
 
@@ -146,7 +146,7 @@ joined : {X : Type 0} (xs ys zs : List X) → (xs ++ ys) ++ zs ≡ xs ++ (ys ++ 
 joined [] ys zs = refl
 joined (x ∷ xs) ys zs = ap (λ l. x ∷ l) (joined xs ys zs)
 
--- lines before all changes stay before
+-- each line is before the keys of all changes
 abbrev AreBeforeAll : List Line → List LineChange → Type 0
 AreBeforeAll front cs = AllByRecursion (λ c. AreBelow c.0 front) cs
 
@@ -179,7 +179,7 @@ woven_is lines (c ∷ cs) sorted rising =
     ∙ ap (λ l. below c.0 lines ++ l) (woven_passes (line_for c) rest cs (before_for c cs parts.0)))
     ∙ woven_is (with_line lines c) cs (sorted_with_line lines c sorted) parts.1
 
--- ---- and takes what was there
+-- ---- and replaces what was there
 
 find_at : (k : KeyTexts) (lines : List Line) → AreSorted lines → find key_cmp k lines ≡ texts_at k (onward k lines)
 find_at k [] sorted = refl

@@ -1,4 +1,4 @@
--- Bases: the publication that a delta goes from. This is a profile of this project.
+-- Bases: the publication that a delta starts from. This is a profile of this project.
 use Rattle.std.specs.Prelude.{ℕ, ◌+◌, ℤ, pos, ◌-ℤ◌, int_le, List, [], ◌∷◌, length, map, Bool, true, false, ◌&&◌, nat_le, if◌then◌else◌, Option, Some, None, Result, Ok, Err}
 use Rattle.copy_forms.specs.Trails.{Trail}
 use Rattle.register_words.specs.declared.base.Base.{Base}
@@ -9,38 +9,39 @@ use Rattle.golden_shelf.specs.declared.issue.Issue.{Issue}
 abbrev pub moments_of : Trail → List ℤ
 moments_of trail = map (λ publication. publication.moment) trail
 
--- The moments of what is kept of publications.
+-- The moments that are kept for publications.
 abbrev pub moments_in : List Issue → List ℤ
 moments_in issues = map (λ issue. issue.moment) issues
 
--- The last of these moments, of which there is a first.
+-- The last of several moments, given as the first and the later ones.
 abbrev pub last_moment : ℤ → List ℤ → ℤ
 last_moment first [] = first
 last_moment first (next ∷ later) = last_moment next later
 
--- A number among those behind a first one, counted with the first; or 1 where there is none and the first will do.
+-- A number that was counted after the first moment, now counted with the first. If there is none, it is 1 if the first
+-- will do.
 abbrev pub counted : Option ℕ → Bool → Option ℕ
 counted (Some number) first = Some (number + 1)
 counted None true = Some 1
 counted None false = None
 
--- The number of the last of these moments that is at most another one, if there is one. Numbers are counted from 1.
+-- The number of the last of these moments that is at most the bound, if there is one. Numbers are counted from 1.
 abbrev pub last_until : ℤ → List ℤ → Option ℕ
 last_until bound [] = None
 last_until bound (moment ∷ later) = counted (last_until bound later) (int_le moment bound)
 
--- A number from 1 to that of the latest publication names this publication, and another number names none.
+-- A number from 1 to that of the latest publication names the publication with this number. Another number names none.
 abbrev pub numbered : ℕ → ℕ → Result ℕ ShelfFault
 numbered latest number = if nat_le 1 number && nat_le number latest then Ok number else Err
     ShelfFault.PublicationUnknown
 
--- The publication that is old enough, if there is one.
+-- The number of the publication that is old enough, if there is one.
 abbrev pub aged : Option ℕ → Result ℕ ShelfFault
 aged (Some number) = Ok number
 aged None = Err ShelfFault.NoBase
 
--- The number of the publication that a base names among publications with these moments, whose latest has this one. A
--- day, a week and a month are 1, 7 and 31 times 86,400 seconds.
+-- The number of the publication that a base names among publications with these moments; `latest` is the moment of the
+-- latest one. A day, a week and a month are 1, 7 and 31 times 86,400 seconds.
 abbrev pub named : List ℤ → ℤ → Base → Result ℕ ShelfFault
 named moments latest (Base.Number number) = numbered (length moments) number
 named moments latest Base.LastDay = aged (last_until (latest -ℤ pos 86_400) moments)

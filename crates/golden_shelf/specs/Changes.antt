@@ -1,4 +1,4 @@
--- What a publication changes, and what comes of it.
+-- What a publication changes, and the publication that results.
 use Rattle.std.specs.Prelude.{◌≡◌, ℤ, Bool, false, List, Option, IfSome, IsTrue, map}
 use Rattle.std.specs.List.{AllByRecursion, filter}
 use Rattle.lei_records.specs.declared.view.RowKey.{RowKey}
@@ -11,15 +11,15 @@ use Rattle.copy_forms.specs.Patching.{patched}
 use Rattle.copy_forms.specs.Trails.{IsKeyOf, Publication, change_to}
 use Rattle.golden_shelf.specs.Keys.{is_of, key_texts, sheet_of}
 
--- What became of keys since a publication: each with the row that it has now, or with none.
+-- What became of keys since a publication: each with its current row, or with none.
 abbrev pub Changes : Type 0
 Changes = List (RowKey × Option SheetRow)
 
--- Those of one sheet.
+-- The changes of one sheet.
 abbrev pub in_sheet : Sheet → Changes → Changes
 in_sheet sheet changes = filter (λ change. is_of sheet change.0) changes
 
--- The same as the changes of a delta: a row that is put, or a key that is dropped.
+-- The changes of one sheet as a delta has them: a row that is put, or a key that is dropped.
 abbrev pub changes_of : Sheet → Changes → List Change
 changes_of sheet changes = map (λ change. change_to sheet (key_texts change.0) change.1)
     (in_sheet sheet changes)
@@ -33,26 +33,26 @@ pub record IsRowUnder (sheet : Sheet) (k : KeyTexts) (row : SheetRow) : Type 0 w
   pub row_is : IsRowOf sheet row
   pub key_is : key row ≡ k
 
--- The key is one of its sheet, and its row, if it has one, is a row of this sheet under this key.
+-- The key fits its sheet, and its row, if it has one, is a row of this sheet under this key.
 pub record IsOwnChange (change : RowKey × Option SheetRow) : Type 0 where
   pub key_is : IsKeyOf (sheet_of change.0) (key_texts change.0)
   pub row_is : IfSome change.1 (IsRowUnder (sheet_of change.0) (key_texts change.0))
 
--- Each change is so, and the keys of each sheet rise, so none stands twice.
+-- Each change is of this kind, and the keys of each sheet rise, so that none occurs twice.
 pub record AreOwnChanges (changes : Changes) : Type 0 where
   pub each : AllByRecursion IsOwnChange changes
   pub rising : (sheet : Sheet) → AreRising (touched_by sheet changes)
 
--- The row of a change, if it has one, has nothing for the columns that only a wide file has.
+-- The row of a change, if it has one, has nothing in the columns that only a wide file has.
 abbrev pub IsPlain : RowKey × Option SheetRow → Type 0
 IsPlain change = IfSome change.1 (λ row. IsTrue (fits false row))
 
--- Each change of `lei` is so. A narrow publication has no others.
+-- Each change of `lei` is of this kind. A narrow publication has no others.
 abbrev pub ArePlain : Changes → Type 0
 ArePlain changes = AllByRecursion IsPlain (in_sheet Sheet.Lei changes)
 
--- The publication that follows rows by these changes: it has the moment and the width, the rows of each sheet patched
--- by the changes of this sheet, and the keys that changed.
+-- The publication that follows these rows with these changes: it has the moment and the width, the rows of each sheet
+-- patched by the changes of that sheet, and the keys that changed.
 pub record IsIssued (before : Sheet → List SheetRow) (moment : ℤ) (wide : Bool) (changes : Changes)
     (next : Publication) : Type 0 where
   pub moment_is : next.moment ≡ moment

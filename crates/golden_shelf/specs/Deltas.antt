@@ -1,4 +1,4 @@
--- Deltas: what is joined of texts that are kept.
+-- Deltas: what is joined from texts that are kept.
 use Rattle.std.specs.Prelude.{List, map, flat_map, Option, Some, None}
 use Rattle.std.specs.FinMap.Entries.{find}
 use Rattle.std.specs.List.{filter}
@@ -20,11 +20,11 @@ changed_in sheet issues = flat_map (λ issue. map key_texts (filter (is_of sheet
 abbrev pub texts_in : TextKey → KeyTexts
 texts_in key = key_texts key.key
 
--- What a delta has of a key whose row has these texts, or that has no row.
+-- What a delta has for a key whose row has these texts, or that has no row.
 abbrev pub shown : Sheet → KeyTexts → Option RowTexts → Rendered
 shown sheet k (Some texts) = Rendered.put texts
 shown sheet k None = Rendered.drop (dropped_row sheet k)
 
--- What a delta has of a key, by the lines of its sheet.
+-- What a delta has for a key, according to the lines of its sheet.
 abbrev pub shown_in : Sheet → List Line → KeyTexts → Rendered
 shown_in sheet lines k = shown sheet k (find key_cmp k lines)

@@ -10,13 +10,13 @@ sheet_of (RowKey.Rec lei) = Sheet.Lei
 sheet_of (RowKey.Rel start kind end) = Sheet.Rr
 sheet_of (RowKey.Exc lei category) = Sheet.Repex
 
--- A key as the texts that its row begins with.
+-- A key as the texts that its row starts with.
 abbrev pub key_texts : RowKey → KeyTexts
 key_texts (RowKey.Rec lei) = record_key lei
 key_texts (RowKey.Rel start kind end) = relation_key start kind end
 key_texts (RowKey.Exc lei category) = exception_key lei category
 
--- The key is one of this sheet.
+-- The key is of this sheet.
 abbrev pub is_of : Sheet → RowKey → Bool
 is_of Sheet.Lei (RowKey.Rec lei) = true
 is_of Sheet.Rr (RowKey.Rel start kind end) = true

@@ -1,4 +1,4 @@
--- Lines: the texts of rows under their keys, in the order of these.
+-- Lines: the texts of rows under their keys, in the order of the keys.
 use Rattle.std.specs.Prelude.{◌≡◌, List, [], ◌∷◌, true, not, Option, Some, None, map}
 use Rattle.std.specs.FinMap.Entries.{find, is_sorted, put, where_key}
 use Rattle.std.specs.Ordering.{eq_by_cmp}
@@ -15,25 +15,25 @@ Line = KeyTexts × RowTexts
 abbrev pub line_of : SheetRow → Line
 line_of row = (key row, rendered row)
 
--- A key with the texts that its row gets, or with none where it has no row any more.
+-- A key with the texts that its row gets, or with none if it no longer has a row.
 abbrev pub LineChange : Type 0
 LineChange = KeyTexts × Option RowTexts
 
--- The keys of lines rise, so none stands twice.
+-- The keys of lines rise, so that none occurs twice.
 abbrev pub AreSorted : List Line → Type 0
 AreSorted lines = is_sorted key_cmp lines ≡ true
 
--- Lines with a change: the line takes the place of the one of its key or stands as one of its own, or the line of the
--- key is taken out where there is one.
+-- Lines after a change. If the change has texts, its line replaces the line of its key or is inserted. Otherwise the
+-- line of the key is removed, if there is one.
 abbrev pub with_line : List Line → LineChange → List Line
 with_line lines (k, Some texts) = put key_cmp k texts lines
 with_line lines (k, None) = where_key key_cmp (λ other. not (eq_by_cmp key_cmp k other)) lines
 
--- Lines with changes, from the first to the last.
+-- Lines after changes, applied from the first to the last.
 abbrev pub with_lines : List Line → List LineChange → List Line
 with_lines lines [] = lines
 with_lines lines (change ∷ changes) = with_lines (with_line lines change) changes
 
--- What lines have under the keys of changes. With this they are as they were before.
+-- What lines have under the keys of changes. As changes, this restores the lines.
 abbrev pub replaced : List Line → List LineChange → List LineChange
 replaced lines changes = map (λ change. (change.0, find key_cmp change.0 lines)) changes

@@ -1,4 +1,4 @@
--- Parts: what is kept, by sheet, and what was kept before.
+-- Parts: what is kept for each sheet, and what was kept before.
 use Rattle.std.specs.Prelude.{◌-◌, List, length, take}
 use Rattle.register_words.specs.declared.sheets.Sheet.{Sheet}
 use Rattle.golden_shelf.specs.declared.issue.Issue.{Issue}
@@ -13,12 +13,12 @@ side_of sides Sheet.Lei = sides.lei
 side_of sides Sheet.Rr = sides.rr
 side_of sides Sheet.Repex = sides.repex
 
--- What is kept, by its parts.
+-- What is kept, built from its parts.
 abbrev pub kept_of : List Issue → Sides → Kept
 kept_of issues sides = record
     { issues = issues; lei = sides.lei.lines; rr = sides.rr.lines; repex = sides.repex.lines }
 
--- What was kept before the last publication: all publications but the last one, and the lines with what it replaced.
+-- What was kept before the last publication: all publications but the last, and the lines with what it replaced.
 abbrev pub before_of : List Issue → Sides → Kept
 before_of issues sides = record {
   issues = take (length issues - 1) issues;

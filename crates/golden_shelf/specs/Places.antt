@@ -1,4 +1,4 @@
--- Places of lines, and lines of which the texts are exchanged where they stand.
+-- Places of lines, and lines whose texts are replaced in place.
 use Rattle.std.specs.Prelude.{◌≡◌, ℕ, zero, suc, ◌&&◌, ◌<◌, List, [], ◌∷◌, length, Bool, is_some, Option, Some, None}
 use Rattle.std.specs.FinMap.Entries.{find}
 use Rattle.copy_csv.specs.declared.rows.RowTexts.{RowTexts}
@@ -23,11 +23,11 @@ with_texts [] n texts = []
 with_texts (line ∷ lines) zero texts = (line.0, texts) ∷ lines
 with_texts (line ∷ lines) (suc n) texts = line ∷ with_texts lines n texts
 
--- The key stands at this place, or nowhere.
+-- The key is at this place, or, without a place, has no line.
 abbrev pub IsPlaceOf : KeyTexts → List Line → Option ℕ → Type 0
 IsPlaceOf k lines (Some n) = (n < length lines) × (key_of lines n ≡ Some k)
 IsPlaceOf k lines None = find key_cmp k lines ≡ None
 
--- The change gives texts to a key that has a line.
+-- The change has texts for a key that has a line.
 abbrev pub is_there : List Line → LineChange → Bool
 is_there lines change = is_some change.1 && is_some (find key_cmp change.0 lines)

@@ -1,4 +1,4 @@
--- Shelves: what is kept of a trail of publications.
+-- Shelves: what is kept for a trail of publications.
 use Rattle.std.specs.Prelude.{◌≡◌, ◌-◌, Bool, true, List, [], ◌∷◌, length, Option, Some, None, IfSome, map, unwrap_or, ⊤}
 use Rattle.std.specs.List.{filter, slice_get}
 use Rattle.register_words.specs.declared.sheets.Sheet.{Sheet}
@@ -10,7 +10,7 @@ use Rattle.golden_shelf.specs.Lines.{Line, line_of}
 
 -- ---- the latest publication
 
--- The last of these publications, of which there is a first.
+-- The last of several publications, given as the first and the later ones.
 abbrev pub last_behind : Publication → Trail → Publication
 last_behind first [] = first
 last_behind first (next ∷ later) = last_behind next later
@@ -20,18 +20,18 @@ abbrev pub latest : Trail → Option Publication
 latest [] = None
 latest (first ∷ later) = Some (last_behind first later)
 
--- The latest publication of a trail; without one, what stands before the first.
+-- The latest publication of a trail; without one, `nothing_published`.
 abbrev pub latest_or_nothing : Trail → Publication
 latest_or_nothing trail = unwrap_or (latest trail) nothing_published
 
--- Its rows, by sheet.
+-- The rows of the latest publication, by sheet.
 abbrev pub latest_rows : Trail → Sheet → List SheetRow
 latest_rows trail = (latest_or_nothing trail).rows
 
 -- ---- what is kept
 
--- What is kept: of each publication its moment, its width and the keys that changed, and of the latest one the texts of
--- its rows under their keys.
+-- What is kept: for each publication its moment, its width and the keys that changed, and for the latest one the texts
+-- of its rows under their keys.
 pub record Kept : Type 0 where
   pub issues : List Issue
   pub lei : List Line
@@ -44,38 +44,38 @@ lines_of kept Sheet.Lei = kept.lei
 lines_of kept Sheet.Rr = kept.rr
 lines_of kept Sheet.Repex = kept.repex
 
--- Without publications.
+-- What is kept without publications.
 abbrev pub nothing_kept : Kept
 nothing_kept = record { issues = []; lei = []; rr = []; repex = [] }
 
--- What contracts see of a shelf: what it keeps, and what it kept before the last publication, where this can be taken
+-- What contracts see of a shelf: what it keeps, and what it kept before the last publication, if that can be taken
 -- back.
 pub record ShelfState : Type 0 where
   pub now : Kept
   pub before : Option Kept
 
--- A publication of this width may follow those of which this is kept: after a wide one comes no narrow one.
+-- A publication of this width may follow those for which this is kept: no narrow one follows a wide one.
 abbrev pub MayFollow : List Issue → Bool → Type 0
 MayFollow issues wide =
     IfSome (slice_get issues (length issues - 1)) (λ issue. issue.wide ≡ true → wide ≡ true)
 
 -- ---- shelves of trails
 
--- This is kept of a publication.
+-- The issue is what is kept for the publication.
 pub record IsIssueOf (issue : Issue) (publication : Publication) : Type 0 where
   pub moment_is : issue.moment ≡ publication.moment
   pub wide_is : issue.wide ≡ publication.wide
   pub touched_are : (sheet : Sheet)
       → publication.touched sheet ≡ map key_texts (filter (is_of sheet) issue.keys)
 
--- Of each publication of a trail this is kept, in their order.
+-- The issues are what is kept for the publications of a trail, in their order.
 abbrev pub AreIssuesOf : List Issue → Trail → Type 0
 AreIssuesOf [] [] = ⊤
 AreIssuesOf (issue ∷ issues) (publication ∷ trail) = IsIssueOf issue publication × AreIssuesOf issues trail
 AreIssuesOf issues trail = ⊥
 
--- A trail is kept so: it is sound, its publications are those that something is kept of, and the lines of each sheet
--- are those of the latest rows.
+-- This is kept for a trail: the trail is sound, its publications are those for which something is kept, and the lines
+-- of each sheet are those of the latest rows.
 pub record Keeps (trail : Trail) (kept : Kept) : Type 0 where
   pub sound : IsSound trail
   pub issues_are : AreIssuesOf kept.issues trail

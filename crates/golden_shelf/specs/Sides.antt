@@ -1,4 +1,4 @@
--- Sides: the lines of one sheet, with what the last publication replaced.
+-- Sides: the lines of one sheet, and what the last publication replaced.
 use Rattle.std.specs.Prelude.{◌≡◌, ℕ, ◌+◌, ◌≤◌, true, List, [], length, map, option_map, Option}
 use Rattle.std.specs.FinMap.Entries.{is_sorted}
 use Rattle.lei_records.specs.declared.view.RowKey.{RowKey}
@@ -10,7 +10,7 @@ use Rattle.golden_shelf.specs.Keys.{key_texts}
 use Rattle.golden_shelf.specs.Lines.{AreSorted, Line, LineChange, with_lines}
 use Rattle.golden_shelf.specs.Beside.{LinesState}
 
--- A note as the change of a line.
+-- A note as a change of a line.
 abbrev pub note_of : Note → LineChange
 note_of note = (key_texts note.key, note.texts)
 
@@ -19,21 +19,21 @@ pub record IsNoteOf (change : RowKey × Option SheetRow) (note : Note) : Type 0 
   pub key_is : note.key ≡ change.0
   pub texts_are : note.texts ≡ option_map rendered change.1
 
--- Many notes as changes of lines.
+-- Notes as changes of lines.
 abbrev pub notes_of : List Note → List LineChange
 notes_of = map note_of
 
--- The keys of changes rise, so none stands twice.
+-- The keys of changes rise, so that none occurs twice.
 abbrev pub AreRisingChanges : List LineChange → Type 0
 AreRisingChanges changes = is_sorted key_cmp changes ≡ true
 
--- The lines of a sheet, what the last publication replaced, and the number of lines for which there is room.
+-- The lines of a sheet, what the last publication replaced, and the number of lines that there is room for.
 pub record SideState : Type 0 where
   pub lines : List Line
   pub notes : List LineChange
   pub room : ℕ
 
--- Lines and notes of a side: the keys of both rise, no line waits, and there is room to take the notes back.
+-- What holds for a side: the keys of lines and notes rise, no line waits, and there is room to take the notes back.
 pub record AreSide (rows rest : LinesState) (notes : List LineChange) : Type 0 where
   pub none_waits : rest.lines ≡ []
   pub sorted : AreSorted rows.lines
@@ -50,7 +50,7 @@ pub record IsSame (old new : SideState) : Type 0 where
 abbrev pub HasRoom : SideState → List Note → Type 0
 HasRoom side changes = length side.lines + length changes + length changes ≤ side.room
 
--- A side whose lines are changed, and whose notes take that back.
+-- A side whose lines are changed, and whose notes undo that.
 pub record IsChanged (old new : SideState) (changes : List Note) : Type 0 where
   pub lines_are : new.lines ≡ with_lines old.lines (notes_of changes)
   pub back : with_lines new.lines new.notes ≡ old.lines

@@ -1,4 +1,4 @@
-// The publication that a delta goes from, among those that are kept.
+//! The publication that a delta starts from, among those that are kept.
 ghost use Rattle.std.specs.Prelude.{◌≡◌, ◌≤◌, ◌-ℤ◌, int_le, length, pos};
 ghost use Rattle.golden_shelf.specs.Bases as spec;
 ghost use Rattle.golden_shelf.specs.Bases.{base_in, moments_in};
@@ -8,7 +8,7 @@ use crate::issue::Issue;
 use lei_shapes::Moment;
 use register_words::Base;
 
-/// The number of the publication that a base names, or why it names none.
+/// The number of the publication that a base names, counted from 1, or why the base names none.
 pub fn base_number(issues: &[Issue], base: Base) -> Result<u32, ShelfFault>
     requires { length issues.now ≤ 1_000_000 }
     ensures { result ≡ base_in (moments_in issues.now) base }
@@ -24,7 +24,7 @@ pub fn base_number(issues: &[Issue], base: Base) -> Result<u32, ShelfFault>
     }
 }
 
-// The publication with a number, where there are so many.
+// The publication with this number, if there are that many.
 fn numbered(count: usize, number: u32) -> Result<u32, ShelfFault>
     ensures { result ≡ spec.numbered count number }
 {
@@ -35,7 +35,7 @@ fn numbered(count: usize, number: u32) -> Result<u32, ShelfFault>
     }
 }
 
-// The last publication that is so many seconds older than this moment.
+// The last publication that is at least this many seconds older than the moment.
 fn aged(issues: &[Issue], latest: Moment, seconds: u32) -> Result<u32, ShelfFault>
     requires few { length issues.now ≤ 1_000_000 }
     ensures { result ≡ spec.aged (spec.last_until (latest -ℤ pos seconds) (moments_in issues.now)) }
@@ -46,14 +46,14 @@ fn aged(issues: &[Issue], latest: Moment, seconds: u32) -> Result<u32, ShelfFaul
     }
 }
 
-// Whether a publication is so many seconds older than this moment.
+// Whether a publication is at least this many seconds older than the moment.
 fn is_older(issue: &Issue, latest: Moment, seconds: u32) -> bool
     ensures { result ≡ int_le issue.now.moment (latest -ℤ pos seconds) }
 {
     issue.moment.seconds() <= latest.seconds() - i64::from(seconds)
 }
 
-// The number of the last publication that is so much older. It is looked for from the back.
+// The number of the last publication that is old enough. The search goes backwards.
 fn last_until(issues: &[Issue], latest: Moment, seconds: u32) -> Option<u32>
     requires { length issues.now ≤ 1_000_000 }
     ensures { result ≡ spec.last_until (latest -ℤ pos seconds) (moments_in issues.now) }

@@ -1,4 +1,4 @@
-// What a delta has of keys, joined of texts that are kept.
+//! What a delta has for keys, joined from texts that are kept.
 ghost use Rattle.std.specs.Prelude.{◌≡◌, ◌++◌, ◌≤◌, true, codes, IfOk, OnOk, length, map, replicate};
 ghost use Rattle.std.specs.List.{All};
 ghost use Rattle.copy_csv.specs.Csv.{rendered_in};
@@ -15,7 +15,7 @@ use lei_outside::NoMemory;
 use lei_records::RowKey;
 use std::alloc::Global;
 
-/// What a delta has of each of these keys of a sheet, by its lines.
+/// What a delta has for each of these keys of a sheet, according to the sheet's lines.
 pub fn changes_of<'a>(
     alloc: Global,
     sheet: Sheet,
@@ -33,7 +33,7 @@ pub fn changes_of<'a>(
     Ok(changes)
 }
 
-// What a delta has of a key: the texts of its row, or the row of a key that is dropped.
+// What a delta has for a key: the texts of its row, or the row of a dropped key.
 fn change_of<'a>(
     alloc: Global,
     sheet: Sheet,
@@ -49,7 +49,7 @@ fn change_of<'a>(
     }
 }
 
-// The row of a key that is dropped: the texts of the key, and no others.
+// The row of a dropped key: the texts of the key, followed by empty ones.
 fn dropped(alloc: Global, sheet: Sheet, key: &RowKey) -> Result<Row, NoMemory>
     requires own { is_of sheet key.now ≡ true }
     ensures { IfOk result (λ row. row ≡ dropped_row sheet (key_texts key.now)) }

@@ -1,6 +1,6 @@
-//! Why a text isn't given.
+//! Why a shelf doesn't return a text.
 
-/// Why a shelf doesn't give a text.
+/// Why a shelf doesn't return a copy or a delta.
 #[derive(Clone, Copy, Debug, PartialEq, Eq)]
 pub enum ShelfFault {
     /// There is no publication yet.
@@ -9,6 +9,6 @@ pub enum ShelfFault {
     PublicationUnknown,
     /// No publication is old enough.
     NoBase,
-    /// Memory is wanting.
+    /// Out of memory.
     NoMemory,
 }

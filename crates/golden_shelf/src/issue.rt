@@ -1,9 +1,10 @@
-// What is kept of a publication.
+//! What a shelf keeps for each publication.
 use lei_outside::List;
 use lei_records::RowKey;
 use lei_shapes::Moment;
 
-/// What is kept of a publication: its moment, whether its files are wide where they may be, and the keys that changed.
+/// What a shelf keeps for each publication: its moment, whether those of its files that may be wide are wide, and the
+/// keys that changed.
 #[derive(Drop)]
 pub struct Issue {
     pub moment: Moment,

@@ -1,4 +1,4 @@
-// Keys in the order of their texts.
+//! The order of keys by their texts.
 ghost use Rattle.std.specs.Prelude.{◌≡◌};
 ghost use Rattle.lei_records.specs.Tables.{key_cmp};
 ghost use Rattle.golden_shelf.specs.Keys.{key_texts};
@@ -6,7 +6,7 @@ ghost use Rattle.golden_shelf.specs.Keys.{key_texts};
 use lei_records::RowKey;
 use std::cmp::Ordering;
 
-/// How the texts of two keys compare, text by text. Keys of different sheets compare so, too.
+/// Compares the texts of two keys, text by text, also if the keys are of different sheets.
 pub fn compare(a: &RowKey, b: &RowKey) -> Ordering
     ensures { result ≡ key_cmp (key_texts a.now) (key_texts b.now) }
 {

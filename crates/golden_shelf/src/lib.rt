@@ -1,4 +1,4 @@
-//! The shelf: golden copies of a trail of publications, joined of texts that are kept.
+//! The shelf: golden copies and deltas of a trail of publications, joined from texts that are kept.
 #![tactic(auto)]
 
 mod bases;

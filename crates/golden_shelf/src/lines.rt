@@ -1,4 +1,4 @@
-// The lines of a sheet: keys beside the texts of their rows, so that the texts are one slice.
+//! The lines of a sheet: keys and texts in two lists, so that the texts are one slice.
 ghost use Rattle.std.specs.Prelude.{◌≡◌, ◌<◌, ◌≤◌, ◌++◌, ◌∷◌, [], MatchOption, length, map, option_map, ◌-◌, ℕ, OnOk, Some};
 ghost use Rattle.std.specs.List.{slice_get};
 ghost use Rattle.golden_shelf.specs.Keys.{key_texts};
@@ -14,14 +14,14 @@ use std::cmp::Ordering;
 use std::marker::Model;
 use std::mem;
 
-/// A key with the texts of its row, or with none.
+/// A key, with the texts of its row if it has one.
 #[derive(Drop)]
 pub struct Note {
     pub key: RowKey,
     pub texts: Option<RowTexts>,
 }
 
-/// Lines, and the number of those for which there is room in all. Contracts see both.
+/// Lines, and the total number of lines that they have room for. Contracts see both.
 #[derive(Drop)]
 pub struct Lines {
     keys: Vec<RowKey>,
@@ -42,7 +42,7 @@ impl Model for Lines {
 }
 
 impl Lines {
-    /// No lines, with no room.
+    /// No lines, and no room for any.
     pub fn new(alloc: Global) -> Self
         ensures lines { result.lines ≡ [] }
         ensures room { result.room ≡ 0 }
@@ -54,21 +54,21 @@ impl Lines {
         }
     }
 
-    /// How many they are.
+    /// The number of lines.
     pub fn len(&self) -> usize
         ensures { result ≡ length self.now.lines }
     {
         self.texts.len()
     }
 
-    /// The texts of all lines.
+    /// The texts of all lines, in order.
     pub fn texts(&self) -> &[RowTexts]
         ensures { result.now ≡ map (λ line. line.1) self.now.lines }
     {
         self.texts.as_slice()
     }
 
-    /// The last key.
+    /// The key of the last line, if there is one.
     pub fn last_key(&self) -> Option<&RowKey>
         ensures { option_map (λ key. key_texts key.now) result
             ≡ slice_get (map (λ line. line.0) self.now.lines) (length self.now.lines - 1) }
@@ -76,7 +76,7 @@ impl Lines {
         self.keys.as_slice().last()
     }
 
-    /// Where the line of a key stands, if there is one. The condition is that the keys rise.
+    /// The index of the line of a key, if there is one. The keys must be in rising order.
     pub fn place(&self, key: &RowKey) -> Option<usize>
         requires { AreSorted self.now.lines }
         ensures { IsPlaceOf (key_texts key.now) self.now.lines result }
@@ -95,7 +95,7 @@ impl Lines {
         None
     }
 
-    /// Exchanges the texts of a line for others.
+    /// Swaps the texts of the line at an index with those passed in.
     pub fn exchange(&mut self, index: usize, texts: &mut RowTexts)
         requires { index < length self.old.lines }
         ensures lines { self.new.lines ≡ with_texts self.old.lines index texts.old }
@@ -105,7 +105,7 @@ impl Lines {
         mem::swap(&mut self.texts[index], texts);
     }
 
-    /// Makes room for so many lines in all.
+    /// Makes room for this many lines in all, counting those that are there.
     pub fn reserve(&mut self, total: usize) -> Result<(), NoMemory>
         requires { length self.old.lines ≤ total }
         ensures lines { self.new.lines ≡ self.old.lines }
@@ -122,7 +122,7 @@ impl Lines {
         Ok(())
     }
 
-    /// Puts a line behind the others, for which there is room.
+    /// Appends a line. There must be room for it.
     pub fn push_reserved(&mut self, key: RowKey, texts: RowTexts)
         requires { length self.old.lines < self.old.room }
         ensures lines { self.new.lines ≡ self.old.lines ++ (key_texts key, texts) ∷ [] }
@@ -132,7 +132,7 @@ impl Lines {
         self.texts.push_reserved(texts);
     }
 
-    /// Takes the last line.
+    /// Removes the last line and returns it.
     pub fn pop(&mut self) -> Option<(RowKey, RowTexts)>
         ensures line { MatchOption result ((self.old.lines ≡ []) × (self.new.lines ≡ []))
             (λ line. self.old.lines ≡ self.new.lines ++ (key_texts line.0, line.1) ∷ []) }

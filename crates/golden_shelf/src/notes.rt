@@ -1,4 +1,4 @@
-// The changes of a publication, rendered and parted by sheet.
+//! The changes of a publication, rendered and split by sheet.
 ghost use Rattle.std.specs.Prelude.{◌≡◌, ◌+◌, ◌++◌, ◌∷◌, [], IfOk, OnOk, length, map};
 ghost use Rattle.std.specs.List.{AllZip, filter};
 ghost use Rattle.register_words.specs.declared.sheets.Sheet.{Sheet as DeclaredSheet};
@@ -15,7 +15,7 @@ use std::sync::ledger::Ledger;
 use std::thread::Threads;
 use worker_pool::{Steps, map_list};
 
-/// Notes by sheet.
+/// The notes of each sheet.
 #[derive(Drop)]
 pub struct Parts {
     pub lei: Vec<Note>,
@@ -23,7 +23,7 @@ pub struct Parts {
     pub repex: Vec<Note>,
 }
 
-/// A change, its row rendered.
+/// A change with its row rendered, if it has one.
 pub fn render(alloc: Global, change: &(RowKey, Option<Row>)) -> Result<Note, NoMemory>
     ensures { IfOk result (λ note. IsNoteOf change.now note) }
 {
@@ -58,7 +58,7 @@ pub fn render_all<L: Ledger, R: Threads + Sync>(
     )
 }
 
-/// Notes by sheet, each in the part of its key's.
+/// Notes split by sheet: each is in the part of its key's sheet.
 pub fn parted(alloc: Global, notes: Vec<Note>) -> Result<Parts, NoMemory>
     ensures lei { IfOk result
         (λ parts. parts.lei.items ≡ filter (λ note. is_of DeclaredSheet.Lei note.key) notes.items) }
@@ -78,7 +78,7 @@ pub fn parted(alloc: Global, notes: Vec<Note>) -> Result<Parts, NoMemory>
     Ok(parts)
 }
 
-// Puts a note behind those of its sheet.
+// Appends a note to those of its sheet.
 fn put_part(parts: &mut Parts, note: Note) -> Result<(), NoMemory>
     ensures lei { OnOk result
         (parts.new.lei.items ≡ parts.old.lei.items
@@ -97,7 +97,7 @@ fn put_part(parts: &mut Parts, note: Note) -> Result<(), NoMemory>
     Ok(())
 }
 
-/// The keys of changes.
+/// The keys of changes, in order.
 pub fn keys_of(alloc: Global, changes: &[(RowKey, Option<Row>)]) -> Result<List<RowKey>, NoMemory>
     ensures { IfOk result (λ keys. keys ≡ map (λ change. change.0) changes.now) }
 {

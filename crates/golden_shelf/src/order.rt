@@ -1,4 +1,4 @@
-// Keys that stand in the order of their texts.
+//! Keys that are ordered by their texts.
 ghost use Rattle.std.specs.Prelude.{◌≡◌, Some, refl};
 ghost use Rattle.std.specs.Cmp;
 ghost use Rattle.std.specs.Cmp.{eq_by_cmp_equiv, on_total, partial_order_from_agreeing_total};
@@ -13,7 +13,7 @@ use crate::keys::compare;
 use lei_records::RowKey;
 use std::cmp::Ordering;
 
-/// A key in the order of its texts.
+/// A key that is ordered by its texts.
 #[derive(Clone, Copy)]
 pub struct TextKey {
     pub key: RowKey,

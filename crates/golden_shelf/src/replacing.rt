@@ -1,4 +1,4 @@
-// Texts of lines that are exchanged where they stand.
+//! Replaces the texts of lines without moving the lines.
 ghost use Rattle.std.specs.Prelude.{◌≡◌, ◌<◌, true, IsTrue, length};
 ghost use Rattle.std.specs.FinMap.Entries.{find};
 ghost use Rattle.std.specs.List.{list_all};
@@ -10,7 +10,7 @@ ghost use Rattle.golden_shelf.specs.Sides.{AreRisingChanges, note_of, notes_of};
 
 use crate::lines::{Lines, Note};
 
-/// Whether each note gives texts to a key that has a line.
+/// Whether each note has texts for a key that has a line.
 pub fn are_there(rows: &Lines, notes: &[Note]) -> bool
     requires { AreSorted rows.now.lines }
     ensures { result ≡ list_all (is_put_there rows.now.lines) (notes_of notes.now) }
@@ -23,7 +23,7 @@ pub fn are_there(rows: &Lines, notes: &[Note]) -> bool
     true
 }
 
-// Whether a note gives texts to a key that has a line.
+// Whether a note has texts for a key that has a line.
 fn is_there(rows: &Lines, note: &Note) -> bool
     requires { AreSorted rows.now.lines }
     ensures { result ≡ is_put_there rows.now.lines (note_of note.now) }
@@ -31,7 +31,7 @@ fn is_there(rows: &Lines, note: &Note) -> bool
     note.texts.is_some() && rows.place(&note.key).is_some()
 }
 
-/// Exchanges the texts of each note for those of the line of its key, and moves no line.
+/// Swaps the texts of each note with those of the line of its key. No line is moved.
 pub fn replace_all(rows: &mut Lines, notes: &mut [Note])
     requires sorted { AreSorted rows.old.lines }
     requires rising { AreRisingChanges (notes_of notes.old) }
@@ -47,7 +47,7 @@ pub fn replace_all(rows: &mut Lines, notes: &mut [Note])
     }
 }
 
-// Exchanges the texts of a note for those of the line of its key.
+// Swaps the texts of a note with those of the line of its key.
 fn replace(rows: &mut Lines, note: &mut Note)
     requires sorted { AreSorted rows.old.lines }
     requires there { is_put_there rows.old.lines (note_of note.old) ≡ true }

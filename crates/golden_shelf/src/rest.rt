@@ -1,4 +1,4 @@
-// Lines that wait to be put behind others, from the first of them on.
+//! Lines that wait to be appended to others, starting with the first.
 ghost use Rattle.std.specs.Prelude.{◌≡◌, ◌<◌, ◌≤◌, ◌++◌, ◌∷◌, [], MatchOption, length, ℕ, OnOk};
 ghost use Rattle.std.specs.declared.cmp.Ordering.{Ordering as Order};
 ghost use Rattle.lei_records.specs.Tables.{key_cmp};
@@ -14,7 +14,7 @@ use std::alloc::Global;
 use std::cmp::Ordering;
 use std::marker::Model;
 
-/// Lines of which the first is taken first. They lie in memory from the last to the first.
+/// Lines that are removed starting with the first. In memory they are in reverse order.
 #[derive(Drop)]
 pub struct Rest {
     back: Lines,
@@ -30,7 +30,7 @@ impl Model for Rest {
 }
 
 impl Rest {
-    /// No lines, with no room.
+    /// No lines, and no room for any.
     pub fn new(alloc: Global) -> Self
         ensures lines { result.lines ≡ [] }
         ensures room { result.room ≡ 0 }
@@ -40,7 +40,7 @@ impl Rest {
         }
     }
 
-    /// Makes room for so many lines in all.
+    /// Makes room for this many lines in all, counting those that are there.
     pub fn reserve(&mut self, total: usize) -> Result<(), NoMemory>
         requires { length self.old.lines ≤ total }
         ensures lines { self.new.lines ≡ self.old.lines }
@@ -51,7 +51,7 @@ impl Rest {
         self.back.reserve(total)
     }
 
-    /// Puts a line before the others, for which there is room.
+    /// Puts a line before the others. There must be room for it.
     pub fn push_first_reserved(&mut self, key: RowKey, texts: RowTexts)
         requires { length self.old.lines < self.old.room }
         ensures lines { self.new.lines ≡ (key_texts key, texts) ∷ self.old.lines }
@@ -60,7 +60,7 @@ impl Rest {
         self.back.push_reserved(key, texts);
     }
 
-    /// Takes the first line.
+    /// Removes the first line and returns it.
     pub fn pop_first(&mut self) -> Option<(RowKey, RowTexts)>
         ensures line { MatchOption result ((self.old.lines ≡ []) × (self.new.lines ≡ []))
             (λ line. self.old.lines ≡ (key_texts line.0, line.1) ∷ self.new.lines) }
@@ -69,7 +69,7 @@ impl Rest {
         self.back.pop()
     }
 
-    // How a key compares to that of the first line.
+    // How a key compares with that of the first line, if there is one.
     fn order_of_first(&self, key: &RowKey) -> Option<Ordering>
         ensures { result ≡ first_order (key_texts key.now) self.now.lines }
     {
@@ -79,7 +79,7 @@ impl Rest {
         }
     }
 
-    /// Takes the first line, where it stands before this key.
+    /// Removes the first line and returns it, if it is before this key.
     pub fn pop_before(&mut self, key: &RowKey) -> Option<(RowKey, RowTexts)>
         ensures line { MatchOption result
             ((self.new.lines ≡ self.old.lines) × (below (key_texts key.now) self.old.lines ≡ [])
@@ -95,7 +95,7 @@ impl Rest {
         }
     }
 
-    /// Of lines from this key on, takes the line of the key, and gives its texts.
+    /// Removes the first line if it has this key, and returns its texts. Used when no line is before the key.
     pub fn pop_at(&mut self, key: &RowKey) -> Option<RowTexts>
         ensures texts { result ≡ texts_at (key_texts key.now) self.old.lines }
         ensures lines { self.new.lines ≡ past (key_texts key.now) self.old.lines }

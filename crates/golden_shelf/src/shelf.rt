@@ -1,4 +1,4 @@
-//! The shelf.
+//! The shelf, which publishes and returns copies and deltas.
 ghost use Rattle.std.specs.Prelude.{◌≡◌, ◌+◌, ◌<◌, ◌≤◌, ◌++◌, ◌∷◌, ◌↔◌, ◌⊎◌, ◌&&◌, [], ℕ, false, None, Some, Ok, Err, List as Items, MatchResult, drop, map, IfErr, IfOk, IsErrOf, IsSome, OnErr, OnOk, length, option_map};
 ghost use Rattle.std.specs.List.{All};
 ghost use Rattle.register_words.specs.declared.sheets.Sheet.{Sheet as DeclaredSheet};
@@ -31,9 +31,8 @@ use std::sync::ledger::Ledger;
 use std::thread::Threads;
 use worker_pool::Steps;
 
-/// Publications one behind the other, of which the latest can be copied. Each row is rendered once, when it is
-/// published. Contracts see what is kept of the publications, and what was kept before the last one, where that can be
-/// taken back.
+/// Publications one after another; the latest can be copied. Each row is rendered once, when it is published. Contracts
+/// see what is kept for the publications. They also see what was kept before the last one, if that can be taken back.
 #[derive(Drop)]
 pub struct Shelf {
     alloc: Global,
@@ -73,12 +72,12 @@ impl Shelf {
         })
     }
 
-    /// Publishes the rows of the latest publication with these changes: of each key its row now, or none where the key
-    /// has no row any more. Each change is a step, and no other row is rendered, also where this publication is the
-    /// first wide one. The condition is that keys are those of their rows and rise within each sheet, that there were
-    /// fewer than 1,000,000 publications, and that the width may follow: after a wide publication come only wide ones,
-    /// and a narrow one has nothing for the columns that only wide files have. Where memory is wanting, all stays as it
-    /// was, also what can be taken back.
+    /// Publishes the rows of the latest publication with these changes: each key with its current row, or with none if
+    /// it no longer has a row. Each change is a step. No other row is rendered, not even if this publication is the
+    /// first wide one. The conditions are: keys are those of their rows and rise within each sheet, there were fewer
+    /// than 1,000,000 publications, and the width may follow. After a wide publication only wide ones follow, and a
+    /// narrow one has nothing in the columns that only wide files have. On an error (out of memory) everything stays as
+    /// it was, including what can be taken back.
     pub fn publish<L: Ledger, R: Threads + Sync>(
         &mut self,
         rt: &R,
@@ -101,7 +100,7 @@ impl Shelf {
         ensures steps_stay { steps.old ≤ steps.new }
     {
         let alloc = self.alloc;
-        // A moment is within the range of moments.
+        // Called for its contract: a moment is within the range of moments.
         let _ = moment.seconds();
         let notes = render_all(rt, alloc, changes, steps)?;
         let parts = parted(alloc, notes)?;
@@ -114,7 +113,7 @@ impl Shelf {
         Ok(())
     }
 
-    /// Takes back the last publication. It takes no memory. The condition is that there is something to take back.
+    /// Takes back the last publication, without allocating memory. There must be something to take back.
     pub fn undo(&mut self)
         requires { IsSome self.old.before }
         ensures now { Some self.new.now ≡ self.old.before }
@@ -125,7 +124,7 @@ impl Shelf {
         self.undoable = false;
     }
 
-    /// The copy of a sheet in the latest publication, in its width, joined of texts that are kept.
+    /// The copy of a sheet in the latest publication, in its width, joined from texts that are kept.
     pub fn copy(&self, sheet: Sheet, form: Form) -> Result<Bytes, ShelfFault>
         ensures nothing { IsErrOf result DeclaredFault.NothingPublished ↔ (self.now.now.issues ≡ []) }
         ensures copy { IfOk result (λ bytes. (trail : Trail) (last : Publication) → Keeps trail self.now.now
@@ -155,9 +154,9 @@ impl Shelf {
         }
     }
 
-    /// The delta of a sheet to the latest publication, in its width, from the one that a base names, joined of texts
-    /// that are kept. It costs the keys that changed since then, their order, and what it gives. A refusal takes no
-    /// memory.
+    /// The delta of a sheet from the publication that a base names to the latest one. It has the latter's width, and is
+    /// joined from texts that are kept. The cost is that of the keys that changed since then, of sorting them, and of
+    /// the result. A refusal doesn't allocate memory.
     pub fn delta(&self, base: Base, sheet: Sheet, form: Form) -> Result<Bytes, ShelfFault>
         ensures refused { (trail : Trail) (fault : DeclaredFault) → Keeps trail self.now.now
             → base_in (moments_of trail) base ≡ Err fault → result ≡ Err fault }
@@ -175,7 +174,7 @@ impl Shelf {
         }
     }
 
-    // The delta from the publication with this number.
+    // The delta from the publication with this number to the latest one.
     fn delta_from(&self, from: u32, sheet: Sheet, form: Form) -> Result<Bytes, ShelfFault>
         requires some { self.now.now.issues ≡ [] → ⊥ }
         requires from { from ≤ length self.now.now.issues }
@@ -198,7 +197,7 @@ impl Shelf {
         }
     }
 
-    // What is joined, in this width, of the keys that changed behind the publication that a head has the delta go from.
+    // The delta in this width, joined for the keys that changed after the publication that the head names as its base.
     fn delta_behind(
         &self,
         sheet: Sheet,
@@ -219,7 +218,7 @@ impl Shelf {
         delta_text(self.alloc, sheet, form, wide, head, changes.as_slice())
     }
 
-    // Whether the files of this sheet and form are wide in the latest publication.
+    // Whether the latest publication's files of this sheet and form are wide.
     fn is_wide(&self, sheet: Sheet, form: Form) -> bool
         ensures { (trail : Trail) (last : Publication) → Keeps trail self.now.now → latest trail ≡ Some last
             → result ≡ is_wide_in last sheet form }
@@ -230,7 +229,7 @@ impl Shelf {
         }
     }
 
-    /// How many rows the latest publication has: records, relationships and exceptions.
+    /// The numbers of records, relationships and exceptions in the latest publication.
     pub fn counts(&self) -> (u64, u64, u64)
         ensures lei { (trail : Trail) → Keeps trail self.now.now
             → result.0 ≡ length (latest_rows trail DeclaredSheet.Lei) }
@@ -246,7 +245,7 @@ impl Shelf {
         )
     }
 
-    /// The number and the moment of the latest publication.
+    /// The number and the moment of the latest publication, if there is one.
     pub fn latest(&self) -> Option<(u32, Moment)>
         ensures latest { (trail : Trail) → Keeps trail self.now.now
             → result ≡ option_map (λ last. (length trail, last.moment)) (latest trail) }

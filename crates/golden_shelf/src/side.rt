@@ -1,4 +1,4 @@
-// The lines of one sheet, with what the last publication replaced among them.
+//! The lines of one sheet, and what the last publication replaced among them.
 ghost use Rattle.std.specs.Prelude.{◌≡◌, ◌+◌, ◌≤◌, [], length, map, IfSome, OnOk, option_map};
 ghost use Rattle.std.specs.FinMap.Entries.{find};
 ghost use Rattle.lei_records.specs.Tables.{key_cmp};
@@ -15,8 +15,8 @@ use lei_records::RowKey;
 use std::alloc::Global;
 use std::marker::Model;
 
-/// The lines of a sheet, and notes of what the last publication replaced. Contracts see also for how many lines there
-/// is room.
+/// The lines of a sheet, and notes of what the last publication replaced. Contracts also see how many lines there is
+/// room for.
 #[derive(Drop)]
 pub struct Side {
     rows: Lines,
@@ -47,7 +47,7 @@ impl Side {
         }
     }
 
-    /// How many lines there are.
+    /// The number of lines.
     pub fn len(&self) -> usize
         ensures { result ≡ length self.now.lines }
     {
@@ -69,7 +69,7 @@ impl Side {
         self.rows.texts().get(index)
     }
 
-    /// Makes room to put so many changes and to take them back.
+    /// Makes room to put this many changes and to take them back.
     pub fn make_room(&mut self, changes: usize) -> Result<(), NoMemory>
         ensures same { IsSame self.old self.new }
         ensures room { OnOk result (length self.old.lines + changes + changes ≤ self.new.room) }
@@ -81,7 +81,7 @@ impl Side {
         self.rest.reserve(total)
     }
 
-    /// Puts changes, for which there is room, and notes what they replace.
+    /// Puts changes, and notes what they replace. There must be room for them.
     pub fn put(&mut self, changes: Vec<Note>)
         requires rising { AreRisingChanges (notes_of changes.items) }
         requires room { HasRoom self.old changes.items }
@@ -91,7 +91,7 @@ impl Side {
         weave(&mut self.rows, &mut self.rest, self.notes.as_mut_slice());
     }
 
-    /// Takes back what was put last.
+    /// Takes back the changes that were put last.
     pub fn take_back(&mut self)
         ensures lines { self.new.lines ≡ with_lines self.old.lines self.old.notes }
         ensures notes { self.new.notes ≡ [] }
@@ -101,7 +101,7 @@ impl Side {
     }
 }
 
-// So many lines and twice as many changes, unless it is too large a number.
+// The number of lines plus twice the number of changes, unless the sum is too large.
 fn total_of(lines: usize, changes: usize) -> Option<usize>
     ensures { IfSome result (λ total. total ≡ lines + changes + changes) }
 {

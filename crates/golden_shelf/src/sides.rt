@@ -1,4 +1,4 @@
-// The lines of all sheets.
+//! The lines of all sheets.
 ghost use Rattle.std.specs.Prelude.{◌≡◌, [], OnOk, map};
 ghost use Rattle.golden_shelf.specs.Lines.{with_lines};
 ghost use Rattle.golden_shelf.specs.Sides.{AreRisingChanges, HasRoom, IsChanged, IsSame, notes_of};
@@ -68,7 +68,7 @@ impl Sides {
         self.repex.make_room(parts.repex.len())
     }
 
-    /// Puts changes, for which there is room.
+    /// Puts changes. There must be room for them.
     pub fn put(&mut self, parts: Parts)
         requires lei_rising { AreRisingChanges (notes_of parts.lei.items) }
         requires rr_rising { AreRisingChanges (notes_of parts.rr.items) }
@@ -86,7 +86,7 @@ impl Sides {
         self.repex.put(repex);
     }
 
-    /// Takes back what was put last.
+    /// Takes back the changes that were put last.
     pub fn take_back(&mut self)
         ensures lei { self.new.lei.lines ≡ with_lines self.old.lei.lines self.old.lei.notes }
         ensures rr { self.new.rr.lines ≡ with_lines self.old.rr.lines self.old.rr.notes }

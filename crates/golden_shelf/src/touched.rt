@@ -1,4 +1,4 @@
-// The keys that publications changed, in order.
+//! The keys that publications changed, in order.
 ghost use Rattle.std.specs.Prelude.{◌≡◌, ◌++◌, ◌∷◌, [], true, IfOk, OnOk, map};
 ghost use Rattle.std.specs.List.{All, filter};
 ghost use Rattle.copy_forms.specs.Trails.{in_order};
@@ -12,7 +12,7 @@ use lei_outside::NoMemory;
 use lei_records::RowKey;
 use std::alloc::Global;
 
-/// The keys of a sheet that these publications changed, in the order of their texts and each once.
+/// The keys of a sheet that these publications changed, in the order of their texts, each once.
 pub fn touched(alloc: Global, issues: &[Issue], sheet: Sheet) -> Result<Vec<TextKey>, NoMemory>
     ensures keys { IfOk result (λ keys. map texts_in keys.items ≡ in_order (changed_in sheet issues.now)) }
     ensures own { IfOk result (λ keys. All (λ key. is_key_of sheet key.key ≡ true) keys.items) }
@@ -23,7 +23,7 @@ pub fn touched(alloc: Global, issues: &[Issue], sheet: Sheet) -> Result<Vec<Text
     Ok(keys)
 }
 
-// The keys of a sheet that these publications changed, one publication behind the other.
+// The keys of a sheet that these publications changed, one publication after the other.
 fn all_touched(alloc: Global, issues: &[Issue], sheet: Sheet) -> Result<Vec<TextKey>, NoMemory>
     ensures keys { IfOk result (λ keys. map texts_in keys.items ≡ changed_in sheet issues.now) }
     ensures own { IfOk result (λ keys. All (λ key. is_key_of sheet key.key ≡ true) keys.items) }
@@ -35,7 +35,7 @@ fn all_touched(alloc: Global, issues: &[Issue], sheet: Sheet) -> Result<Vec<Text
     Ok(keys)
 }
 
-// Puts those of these keys that are of a sheet behind the others.
+// Appends those of these keys that are of a sheet.
 fn put_keys(out: &mut Vec<TextKey>, keys: &[RowKey], sheet: Sheet) -> Result<(), NoMemory>
     ensures keys { OnOk result (map texts_in out.new.items
         ≡ map texts_in out.old.items ++ map key_texts (filter (is_key_of sheet) keys.now)) }
@@ -48,7 +48,7 @@ fn put_keys(out: &mut Vec<TextKey>, keys: &[RowKey], sheet: Sheet) -> Result<(),
     Ok(())
 }
 
-// Puts a key behind the others, if it is of a sheet.
+// Appends a key if it is of a sheet.
 fn put_key(out: &mut Vec<TextKey>, key: &RowKey, sheet: Sheet) -> Result<(), NoMemory>
     ensures keys { OnOk result (map texts_in out.new.items
         ≡ map texts_in out.old.items ++ map key_texts (filter (is_key_of sheet) (key.now ∷ []))) }
@@ -61,7 +61,7 @@ fn put_key(out: &mut Vec<TextKey>, key: &RowKey, sheet: Sheet) -> Result<(), NoM
     Ok(())
 }
 
-// Whether a key is one of a sheet.
+// Whether a key is of a sheet.
 fn is_of(sheet: Sheet, key: &RowKey) -> bool
     ensures { result ≡ is_key_of sheet key.now }
 {

@@ -1,4 +1,4 @@
-// The walk over the lines of a sheet and what changes among them.
+//! The walk over the lines of a sheet and their changes.
 ghost use Rattle.std.specs.Prelude.{◌≡◌, ◌+◌, ◌≤◌, ◌<◌, ◌++◌, ◌∷◌, [], length};
 ghost use Rattle.golden_shelf.specs.Keys.{key_texts};
 ghost use Rattle.golden_shelf.specs.Lines.{AreSorted, replaced, with_lines};
@@ -11,8 +11,8 @@ use crate::rest::Rest;
 use lei_records::RowKey;
 use std::mem;
 
-/// Puts each change of a note among the lines, and notes what it replaced. No line waits before and none after. Where
-/// few lines get other texts, and no line comes or goes, none is moved.
+/// Puts the change of each note into the lines, and notes what it replaced. No line waits before or after. If few lines
+/// get other texts, and no line comes or goes, no line is moved.
 pub fn weave(rows: &mut Lines, rest: &mut Rest, notes: &mut [Note])
     requires sorted { AreSorted rows.old.lines }
     requires rising { AreRisingChanges (notes_of notes.old) }
@@ -34,7 +34,7 @@ pub fn weave(rows: &mut Lines, rest: &mut Rest, notes: &mut [Note])
     }
 }
 
-// The same by a walk over all lines.
+// The same, by a walk over all lines.
 fn weave_all(rows: &mut Lines, rest: &mut Rest, notes: &mut [Note])
     requires sorted { AreSorted rows.old.lines }
     requires rising { AreRisingChanges (notes_of notes.old) }
@@ -59,7 +59,7 @@ fn weave_all(rows: &mut Lines, rest: &mut Rest, notes: &mut [Note])
     raise_all(rows, rest);
 }
 
-// Puts those that wait before the key of a note behind the others, and then the note's own, and notes what it replaced.
+// Appends the lines that wait before a note's key, and then the note's own line. The note gets what this replaced.
 fn weave_one(rows: &mut Lines, rest: &mut Rest, note: &mut Note)
     requires { length rows.old.lines + length rest.old.lines < rows.old.room }
     ensures rows { rows.new.lines
@@ -78,7 +78,7 @@ fn weave_one(rows: &mut Lines, rest: &mut Rest, note: &mut Note)
     exchange(rows, rest, note);
 }
 
-// Puts all lines before those that wait.
+// Moves all lines to the front of those that wait.
 fn lower(rows: &mut Lines, rest: &mut Rest)
     requires { length rows.old.lines + length rest.old.lines ≤ rest.old.room }
     ensures rows { rows.new.lines ≡ [] }
@@ -91,7 +91,7 @@ fn lower(rows: &mut Lines, rest: &mut Rest)
     }
 }
 
-// Puts those that wait before this key behind the others.
+// Appends the lines that wait before this key.
 fn raise_before(rows: &mut Lines, rest: &mut Rest, key: &RowKey)
     requires { length rows.old.lines + length rest.old.lines ≤ rows.old.room }
     ensures rows { rows.new.lines ≡ rows.old.lines ++ below (key_texts key.now) rest.old.lines }
@@ -106,7 +106,7 @@ fn raise_before(rows: &mut Lines, rest: &mut Rest, key: &RowKey)
     }
 }
 
-// Puts all that wait behind the others.
+// Appends all lines that wait.
 fn raise_all(rows: &mut Lines, rest: &mut Rest)
     requires { length rows.old.lines + length rest.old.lines ≤ rows.old.room }
     ensures rows { rows.new.lines ≡ rows.old.lines ++ rest.old.lines }
@@ -119,7 +119,7 @@ fn raise_all(rows: &mut Lines, rest: &mut Rest)
     }
 }
 
-// Puts the line of a note behind the others, and notes the one of this key, if it waits, in its place.
+// Appends the line of a note, if it has texts. The note gets the texts of the line of its key instead, if that waits.
 fn exchange(rows: &mut Lines, rest: &mut Rest, note: &mut Note)
     requires { length rows.old.lines < rows.old.room }
     ensures rows { rows.new.lines ≡ rows.old.lines ++ line_for (note_of note.old) }

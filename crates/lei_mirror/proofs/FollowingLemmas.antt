@@ -1,4 +1,4 @@
--- A mirror that takes packets of a trail follows it.
+-- A mirror that takes packets of a trail keeps following it.
 use Rattle.std.proofs.Common.{◌≡◌, ℕ, zero, suc, ◌<◌, ◌≤◌, ◌^◌, Bool, true, false, Option, None, Some, List, [], ◌∷◌, ◌++◌, length, refl, sym, ap, subst, ◌∙◌, arith}
 use Rattle.std.specs.Prelude.{is_some}
 use Rattle.std.specs.List.{All}
@@ -27,7 +27,7 @@ use Rattle.lei_mirror.proofs.PacketLemmas.{IsPacketFor, packet_for_is}
 use Rattle.lei_mirror.proofs.TakingLemmas.{left_good}
 
 module _ (trail : Trail) (on : IsSound trail) (few : length trail ≤ 1_000_000) where
-  -- ---- what is read of a packet of the trail
+  -- ---- what is read from a packet of the trail
 
   copy_kept : (sheet : Sheet) (bytes : Text) → length bytes < 2 ^ 64 → IsCopyOfTrail trail sheet bytes → (head : Head) (rows : List SheetRow)
       → IsCopy bytes sheet Form.Json head false rows → (packet : Packet) → packet.sheet ≡ sheet → packet.head ≡ head → packet.body ≡ PacketBody.Copy rows
@@ -86,7 +86,7 @@ module _ (trail : Trail) (on : IsSound trail) (few : length trail ≤ 1_000_000)
 
   -- ---- a move
 
-  -- what a packet of the trail brings
+  -- after a packet of the trail, the sheet shows the copy of this packet's publication
   brought_follows : (shown number : ℕ) (sheet : Sheet) (held : SheetCopy) (packet : Packet) → (1 ≤ shown → ShowsCopyOf trail shown sheet held) → shown < number
       → IsPacketFor (IsKeptOfTrail trail) sheet number shown packet → ShowsCopyOf trail number sheet (copy_with held packet.head packet.body)
   brought_follows shown number sheet held packet shows later is =

@@ -40,7 +40,7 @@ no_delta sheet bytes none packet is = by packet.body is.body_is
     by (PacketBody.Copy rows) is = is
     by (PacketBody.Delta changes) is = none packet.head false changes is
 
--- heads and bodies that are one, as one pair
+-- the same bytes have the same head and the same body
 module _ (sheet : Sheet) (bytes : Text) (short : length bytes < 2 ^ 64) where
   same_body : (kind : PacketKind) (head other : Head) (body another : PacketBody) → IsBody bytes sheet kind head body → IsBody bytes sheet kind other another
       → (head ≡ other) × (body ≡ another)
@@ -73,14 +73,14 @@ one_sheet Sheet.Repex Sheet.Lei e = absurd (false≢true e)
 one_sheet Sheet.Repex Sheet.Rr e = absurd (false≢true e)
 one_sheet Sheet.Repex Sheet.Repex e = refl
 
--- numbers that a test finds to be one
+-- numbers that pass the test are equal
 one_number : (n m : ℕ) → (n == m) ≡ true → n ≡ m
 one_number n m e = grind (arith, nat_tests)
 
 at_most : (n m : ℕ) → nat_le n m ≡ true → n ≤ m
 at_most n m e = grind (arith, nat_tests)
 
--- what the tests of a packet say
+-- what the tests of a packet mean
 pub record IsPacketOf (kind : PacketKind) (sheet : Sheet) (number : ℕ) (packet : Packet) : Type 0 where
   pub kind_is : is_kind (body_kind packet.body) kind ≡ true
   pub sheet_is : packet.sheet ≡ sheet
@@ -130,7 +130,7 @@ deltas_bring sheet number shown packet e =
 
 -- ---- searches
 
--- what is found is a member that passes the test
+-- what is found has a property of all packets, and passes the test
 pub record IsFound (P : Packet → Type 0) (test : Packet → Bool) (packet : Packet) : Type 0 where
   pub holds : P packet
   pub passes : test packet ≡ true
@@ -146,7 +146,7 @@ find_good P test (x ∷ kept) packet all e = by (find_good P test kept packet (A
         subst (IsFound P test) (ap (λ o. unwrap_or o x) e) (record { holds = All-head P x kept all; passes = is })
     by others false is e = others e
 
--- a packet that was found brings the sheet there, and it is one of those that are kept
+-- a packet that was found brings the sheet there, and has a property of all that are kept
 pub record IsPacketFor (P : Packet → Type 0) (sheet : Sheet) (number shown : ℕ) (packet : Packet) : Type 0 where
   pub holds : P packet
   pub brings : Brings sheet number shown packet
@@ -165,7 +165,7 @@ packet_for_is P shown kept number sheet packet all e =
         let is : IsFound P (is_delta_to sheet number shown) packet = find_good P (is_delta_to sheet number shown) kept packet all (other ∙ e) in
         record { holds = is.holds; brings = deltas_bring sheet number shown packet is.passes }
 
--- so it is sound, if all are
+-- so it is sound if all are
 pub packet_for_sound : (shown : ℕ) (kept : List Packet) (number : ℕ) (sheet : Sheet) → All IsSoundPacket kept
     → IsSoundFor sheet (packet_for shown kept number sheet)
 packet_for_sound shown kept number sheet all = by (packet_for shown kept number sheet) refl
@@ -176,7 +176,7 @@ packet_for_sound shown kept number sheet all = by (packet_for shown kept number 
         let is : IsPacketFor IsSoundPacket sheet number shown packet = packet_for_is IsSoundPacket shown kept number sheet packet all e in
         (is.holds, is.brings.sheet_is)
 
--- a search among those that pass another test, which all that it looks for pass
+-- a search among packets that pass another test finds the same, if each packet that it looks for passes that test
 find_filtered : (test keep : Packet → Bool) → ((packet : Packet) → test packet ≡ true → keep packet ≡ true) → (kept : List Packet)
     → find test (filter keep kept) ≡ find test kept
 find_filtered test keep all [] = refl
@@ -210,7 +210,7 @@ packet_for_filtered shown keep kept number sheet all = λ i.
     (λ packet e. all packet (packet_of PacketKind.Copy sheet number packet e).number_is) kept i)
     (find_filtered (is_delta_to sheet number shown) keep (λ packet e. all packet (deltas_bring sheet number shown packet e).number_is) kept i)
 
--- where something is found, something passes
+-- if something is found, some packet passes each weaker test
 find_any : (test other : Packet → Bool) → ((packet : Packet) → test packet ≡ true → other packet ≡ true) → (kept : List Packet)
     → is_some (find test kept) ≡ true → list_any other kept ≡ true
 find_any test other all [] e = absurd (false≢true e)
@@ -222,7 +222,7 @@ find_any test other all (x ∷ kept) e = by (find_any test other all kept) (test
     by others true false passes is e = absurd (false≢true (sym is ∙ all x passes))
     by others false false passes is e = others e
 
--- a packet of this publication
+-- the packet is of this publication
 abbrev pub is_numbered : ℕ → Packet → Bool
 is_numbered number packet = packet.head.publication == number
 

@@ -1,4 +1,4 @@
--- The greatest publication that is ready, as far as the packets were looked at.
+-- The greatest ready publication of the packets that were looked at.
 use Rattle.std.proofs.Common.{◌≡◌, ℕ, ◌+◌, ◌<◌, ◌≤◌, ◌⊎◌, inl, inr, true, ◌||◌, List, [], ◌∷◌, ◌++◌, length, get_or, take, sym, ap, subst, ◌∙◌, arith}
 use Rattle.std.specs.List.{list_any}
 use Rattle.std.proofs.lemmas.Bool.{false≢true, or_cases}
@@ -10,7 +10,7 @@ use Rattle.lei_mirror.specs.declared.packet.Packet.{Packet}
 use Rattle.lei_mirror.specs.Mirrors.{IsGreatestReady, IsReadyToShow}
 use Rattle.lei_mirror.proofs.PacketLemmas.{packet_for_any, is_numbered}
 
--- no publication of the first packets that is ready is greater
+-- no ready publication of the first packets is greater
 pub record GreatestSoFar (shown : ℕ) (kept : List Packet) (count greatest : ℕ) : Type 0 where
   pub least : shown ≤ greatest
   pub ready : shown < greatest → IsReadyToShow shown kept greatest
@@ -44,7 +44,7 @@ module _ (shown : ℕ) (kept : List Packet) where
       one_more : (get_or kept count packet).head.publication ≡ number → packet.head.publication ≡ number
       one_more e = ap (λ (p : Packet). p.head.publication) here ∙ e
 
-  -- its publication is ready and greater
+  -- the publication of this packet is ready and greater
   pub greatest_takes : (count greatest : ℕ) (packet : Packet) → GreatestSoFar shown kept count greatest → count < length kept
       → packet ≡ get_or kept count packet → greatest < packet.head.publication → IsReadyToShow shown kept packet.head.publication
       → GreatestSoFar shown kept (count + 1) packet.head.publication
@@ -57,7 +57,7 @@ module _ (shown : ℕ) (kept : List Packet) where
     ];
   }
 
-  -- it isn't greater, or not ready
+  -- it isn't greater, or it isn't ready
   pub greatest_stays : (count greatest : ℕ) (packet : Packet) → GreatestSoFar shown kept count greatest → count < length kept
       → packet ≡ get_or kept count packet → (greatest < packet.head.publication → IsReadyToShow shown kept packet.head.publication → ⊥)
       → GreatestSoFar shown kept (count + 1) greatest

@@ -1,4 +1,4 @@
--- Moves of a mirror over packets that stay where they are.
+-- Moves of a mirror, if packets are dropped only afterwards.
 use Rattle.std.proofs.Common.{◌≡◌, ℕ, suc, ◌<◌, ◌≤◌, true, Option, None, Some, List, refl, sym, ap, subst, ◌∙◌, arith}
 use Rattle.std.specs.Prelude.{filter, is_some}
 use Rattle.std.specs.List.{All}
@@ -17,9 +17,9 @@ use Rattle.lei_mirror.specs.Settling.{SettlesTo, mirror_of}
 use Rattle.lei_mirror.specs.States.{AreTables, IsHeadAt, IsCopyOf, IsSoundBody, IsSoundPacket}
 use Rattle.lei_mirror.proofs.PacketLemmas.{IsPacketFor, packet_for_filtered, packet_for_is, filtered_twice}
 
--- ---- tables stay tables
+-- ---- tables after a move
 
--- what is held after a packet of a publication
+-- what is shown of a sheet after a packet of a publication
 held_stays : (shown number : ℕ) (sheet : Sheet) (held : SheetCopy) → IsCopyOf shown sheet held → (head : Head) (body : PacketBody) → IsSoundBody sheet head body
     → head.publication ≡ number → IsCopyOf number sheet (copy_with held head body)
 held_stays shown number sheet held is head (PacketBody.Copy rows) sound same = record { head_is = (sound.0, same); rows_are = sound.1 }
@@ -50,7 +50,7 @@ tables_stay tables kept number are sound ready Sheet.Rr =
 tables_stay tables kept number are sound ready Sheet.Repex =
     brought_stays tables kept number Sheet.Repex tables.repex (are Sheet.Repex) sound (ready.packets Sheet.Repex)
 
--- the number of what is shown is one of a publication
+-- the number of what is shown is at most that of a publication
 pub shown_small : (tables : Tables) → AreTables tables → tables.publication ≤ 1_000_000
 shown_small tables are = by tables.lei.head (are Sheet.Lei).head_is
   where
@@ -58,7 +58,7 @@ shown_small tables are = by tables.lei.head (are Sheet.Lei).head_is
     by None none = omega arith
     by (Some head) is = let last : head.publication ≤ 1_000_000 = is.0.publication.1 in let same : head.publication ≡ tables.publication = is.1 in omega arith
 
--- ---- packets that are past by now
+-- ---- packets that are past after a move
 
 after_from : (shown : ℕ) (packet : Packet) (number : ℕ) → shown < number → packet.head.publication ≡ number → is_ahead shown packet ≡ true
 after_from shown packet number later same = grind (arith, nat_tests)
@@ -97,9 +97,9 @@ moved_mirror tables kept number later = λ i. record {
   kept = filtered_twice (is_ahead number) (is_ahead tables.publication) (λ packet e. after_later tables.publication number packet later e) kept i;
 }
 
--- ---- what settles the mirror after a move settles it
+-- ---- what settles the mirror after a move settles it before
 
--- whatever settles it with these tables settles it with those
+-- whatever settles the mirror with the current tables settles it with the others
 abbrev pub GoesOn : Tables → List Packet → Tables → Type 0
 GoesOn tables kept now = (settled : MirrorState) → Settles (mirror_of now kept) settled → Settles (mirror_of tables kept) settled
 
@@ -123,7 +123,7 @@ pub rests : (tables : Tables) (kept : List Packet) (now : Tables) → GoesOn tab
 rests tables kept now goes none =
     goes (mirror_of now kept) (record { moves = 0; settles = (λ number is. none number (ready_whole now kept number is), refl) })
 
--- tables that were made of tables
+-- tables that were built from the tables before a move
 pub tables_made : (tables : Tables) (kept : List Packet) (number : ℕ) (made : Tables) → AreTables tables → All IsSoundPacket kept
     → IsGreatestReady tables.publication kept number → made ≡ tables_at tables kept number → AreTables made
 tables_made tables kept number made are sound is same =

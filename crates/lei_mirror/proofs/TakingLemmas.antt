@@ -1,4 +1,4 @@
--- What a packet makes of a mirror.
+-- How a packet changes a mirror.
 use Rattle.std.proofs.Common.{◌≡◌, ℕ, zero, suc, ◌+◌, ◌<◌, ◌≤◌, Bool, true, false, cond, List, [], ◌∷◌, ◌++◌, length, nat_le, nat_lt, refl, sym, ap, subst, ◌∙◌, arith}
 use Rattle.std.specs.Prelude.{filter}
 use Rattle.std.specs.List.{All, list_any}
@@ -17,7 +17,7 @@ use Rattle.lei_mirror.specs.Packets.{is_like}
 use Rattle.lei_mirror.specs.Settling.{SettlesTo, mirror_of}
 use Rattle.lei_mirror.specs.States.{AreKeptPackets, AreTables, IsCopyOf, IsMirror, IsSoundPacket}
 
--- ---- a mirror settles in one way
+-- ---- a mirror settles in only one way
 
 one_greatest : (shown : ℕ) (kept : List Packet) (number other : ℕ) → IsGreatestReady shown kept number → IsGreatestReady shown kept other → number ≡ other
 one_greatest shown kept number other is are =
@@ -44,7 +44,7 @@ one_taken state packet taken other is are = by (is_past state packet) refl
 
 -- ---- packets that are kept
 
--- all of these are after the publication that is shown
+-- if all packets are after the publication that is shown, all of them are ahead
 all_after : (shown : ℕ) (kept : List Packet) → All (λ packet. shown < packet.head.publication) kept → filter (is_ahead shown) kept ≡ kept
 all_after shown [] all = refl
 all_after shown (x ∷ kept) all =
@@ -55,7 +55,7 @@ all_after shown (x ∷ kept) all =
     is_one : (packet : Packet) → shown < packet.head.publication → is_ahead shown packet ≡ true
     is_one packet later = grind (arith, nat_tests)
 
--- what is left of them
+-- those that are left have a property of all packets
 pub left_good : (P : Packet → Type 0) (test : Packet → Bool) (kept : List Packet) → All P kept → All P (filter test kept)
 left_good P test [] all = All-nil P
 left_good P test (x ∷ kept) all = by (left_good P test kept (All-tail P x kept all)) (test x)
@@ -99,7 +99,7 @@ left_small test (x ∷ kept) = by (left_small test kept) (test x)
 bytes-push : (kept : List Packet) (packet : Packet) → bytes_in (kept ++ packet ∷ []) ≡ bytes_in kept + packet.size
 bytes-push kept packet = sum_by_push (λ packet. packet.size) kept packet
 
--- a packet for which there is room is of a later publication, if it isn't past
+-- a packet that isn't past is of a later publication
 module _ (tables : Tables) (kept : List Packet) (packet : Packet) where
   new_after : is_past (record { tables = tables; kept = kept }) packet ≡ false → tables.publication < packet.head.publication
   new_after new =
@@ -121,7 +121,7 @@ module _ (tables : Tables) (kept : List Packet) (packet : Packet) where
       by : nat_lt 536_870_912 (bytes_in kept + packet.size) ≡ false → bytes_in kept + packet.size ≤ 536_870_912
       by e = grind (arith, nat_tests)
 
-  -- it is kept, and the mirror moves as far as it can
+  -- if there is room for it, it is kept, and the mirror moves as far as it can
   pub keeps_on : (next : Tables) (left : List Packet) → IsMirror tables kept → is_past (record { tables = tables; kept = kept }) packet ≡ false
       → is_mirror_full (record { tables = tables; kept = kept }) packet ≡ false → SettlesTo tables (kept ++ packet ∷ []) next
       → left ≡ filter (is_ahead next.publication) (kept ++ packet ∷ [])
@@ -140,7 +140,7 @@ module _ (tables : Tables) (kept : List Packet) (packet : Packet) where
             (subst (λ state. Settles (mirror_of tables (kept ++ packet ∷ [])) state) after settles);
       }
 
-  -- and it is a mirror then
+  -- and the result is a mirror
   pub stays_mirror : (next : Tables) (left : List Packet) → IsMirror tables kept → IsSoundPacket packet
       → is_mirror_full (record { tables = tables; kept = kept }) packet ≡ false → AreTables next
       → left ≡ filter (is_ahead next.publication) (kept ++ packet ∷ []) → IsMirror next left

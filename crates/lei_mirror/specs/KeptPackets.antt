@@ -1,4 +1,4 @@
--- How the packets are held that a mirror keeps.
+-- How the packets that a mirror keeps are held.
 use Rattle.std.specs.Prelude.{◌≡◌, ℕ}
 use Rattle.std.specs.Arc.{arc_value}
 use Rattle.lei_code.specs.Texts.{Text}
@@ -13,7 +13,7 @@ use Rattle.lei_mirror.specs.Packets.{IsPacket, body_kind}
 abbrev pub IsSpelledBy : Text → Packet → Type 0
 IsSpelledBy bytes packet = IsPacket (body_kind packet.body) packet.sheet bytes packet
 
--- What is held of a packet is bytes that are the packet, or what was read of them.
+-- What is held of a packet: bytes that are the packet, or what was read from them.
 abbrev pub IsHeldBody : HeldBody → Packet → Type 0
 IsHeldBody (HeldBody.Bytes bytes) packet = IsSpelledBy bytes packet
 IsHeldBody (HeldBody.Read body) packet = arc_value body ≡ packet.body

@@ -1,4 +1,4 @@
--- What a mirror shows and keeps, and what a packet makes of it: this project's profile.
+-- What a mirror shows and keeps, and how a packet changes it: this project's profile.
 use Rattle.std.specs.Prelude.{◌≡◌, ◌<◌, ◌≤◌, ◌+◌, ℕ, zero, suc, Bool, false, true, ◌||◌, List, [], ◌∷◌, ◌++◌, length, Option, None, Some, is_some, filter, nat_le, nat_lt, sum_by}
 use Rattle.std.specs.List.{find, list_any}
 use Rattle.std.specs.Option.{option_or}
@@ -15,13 +15,13 @@ use Rattle.lei_mirror.specs.declared.tables.SheetCopy.{SheetCopy}
 use Rattle.lei_mirror.specs.declared.tables.Tables.{Tables}
 use Rattle.lei_mirror.specs.Packets.{IsPacket, is_copy_of, is_delta_to, is_like}
 
--- A mirror: the tables that it shows, all of one publication, whose number is 0 before the first one; and the
--- packets of later publications that it keeps, in the order in which they came.
+-- A mirror: the tables that it shows, all of one publication, whose number is 0 before the first one; and the packets
+-- of later publications that it keeps, in order of arrival.
 pub record MirrorState : Type 0 where
   pub tables : Tables
   pub kept : List Packet
 
--- What is shown of a sheet: the head of its copy, none before the first one, and its rows.
+-- What is shown of a sheet: the head of its copy, or none before the first one, and its rows.
 abbrev pub sheet_copy : Tables → Sheet → SheetCopy
 sheet_copy tables Sheet.Lei = tables.lei
 sheet_copy tables Sheet.Rr = tables.rr
@@ -45,24 +45,23 @@ abbrev pub is_past : MirrorState → Packet → Bool
 is_past state packet =
     nat_le packet.head.publication state.tables.publication || list_any (is_like packet) state.kept
 
--- How many bytes these packets have.
+-- The number of bytes of these packets in total.
 abbrev pub bytes_in : List Packet → ℕ
 bytes_in packets = sum_by (λ packet. packet.size) packets
 
--- There is no room for a packet if 64 are kept, or if the bytes of those and its own are more than
--- 536,870,912 together.
+-- There is no room for a packet if 64 are kept, or if their bytes and its own are more than 536,870,912 in total.
 abbrev pub is_mirror_full : MirrorState → Packet → Bool
 is_mirror_full state packet =
     nat_le 64 (length state.kept) || nat_lt 536_870_912 (bytes_in state.kept + packet.size)
 
--- Every other packet is kept, after the others.
+-- Any other packet is kept, after the others.
 abbrev pub with_packet : MirrorState → Packet → MirrorState
 with_packet state packet = record { tables = state.tables; kept = state.kept ++ packet ∷ [] }
 
 -- ---- from one publication to a later one
 
--- The packet that brings a sheet from the publication that is shown to another one: its copy, or else the
--- first delta to it from the shown publication or from an earlier one.
+-- The packet that brings a sheet from the publication that is shown to another one: its copy, or else the first delta
+-- to it from the shown publication or from an earlier one.
 abbrev pub packet_for : ℕ → List Packet → ℕ → Sheet → Option Packet
 packet_for shown kept number sheet =
     option_or (find (is_copy_of sheet number) kept) (find (is_delta_to sheet number shown) kept)
@@ -72,13 +71,13 @@ pub record IsReadyToShow (shown : ℕ) (kept : List Packet) (number : ℕ) : Typ
   pub later : shown < number
   pub packets : (sheet : Sheet) → is_some (packet_for shown kept number sheet) ≡ true
 
--- It is the greatest that can.
+-- It is the greatest publication that can be shown.
 pub record IsGreatestReady (shown : ℕ) (kept : List Packet) (number : ℕ) : Type 0 where
   pub ready : IsReadyToShow shown kept number
   pub greatest : (other : ℕ) → IsReadyToShow shown kept other → other ≤ number
 
--- What is shown of a sheet after a packet with this head and this body: what a copy has, or what was shown,
--- patched by a delta.
+-- What is shown of a sheet after a packet with this head and this body: the rows of a copy, or the rows that were
+-- shown, patched by a delta.
 abbrev pub copy_with : SheetCopy → Head → PacketBody → SheetCopy
 copy_with old head (PacketBody.Copy rows) = record { head = Some head; rows = rows }
 copy_with old head (PacketBody.Delta changes) = record {
@@ -86,7 +85,7 @@ copy_with old head (PacketBody.Delta changes) = record {
   rows = patched old.rows changes;
 }
 
--- The same after a packet that may be missing.
+-- The same if there may be no packet.
 abbrev pub copy_after : SheetCopy → Option Packet → SheetCopy
 copy_after old None = old
 copy_after old (Some packet) = copy_with old packet.head packet.body
@@ -100,7 +99,7 @@ tables_at tables kept number = record {
   repex = copy_after tables.repex (packet_for tables.publication kept number Sheet.Repex);
 }
 
--- A packet of a publication after this one.
+-- The packet is of a publication after this one.
 abbrev pub is_ahead : ℕ → Packet → Bool
 is_ahead number packet = nat_lt number packet.head.publication
 
@@ -111,8 +110,8 @@ mirror_at state number = record {
   kept = filter (is_ahead number) state.kept;
 }
 
--- After so many moves no publication can be shown any more, and each move was to the greatest one that could
--- be shown before it.
+-- After this many moves no other publication can be shown, and each move was to the greatest one that could be shown
+-- before it.
 abbrev pub SettlesIn : ℕ → MirrorState → MirrorState → Type 0
 SettlesIn zero state settled =
     ((number : ℕ) → IsReadyToShow state.tables.publication state.kept number → ⊥) × (settled ≡ state)
@@ -120,28 +119,28 @@ SettlesIn (suc moves) state settled =
     (number : ℕ) × IsGreatestReady state.tables.publication state.kept number
     × SettlesIn moves (mirror_at state number) settled
 
--- So it is after some number of moves.
+-- The mirror settles after some number of moves.
 pub record Settles (state settled : MirrorState) : Type 0 where
   pub moves : ℕ
   pub settles : SettlesIn moves state settled
 
--- ---- what a packet makes of a mirror
+-- ---- how a packet changes a mirror
 
--- A packet is taken: it changes nothing, or there is room for it, it is kept, and the mirror moves as far as
--- it can.
+-- A packet is taken: either it changes nothing, or there is room for it, it is kept, and the mirror moves as far as it
+-- can.
 pub record TakesPacket (state : MirrorState) (packet : Packet) (taken : MirrorState) : Type 0 where
   pub past : is_past state packet ≡ true → taken ≡ state
   pub room : is_past state packet ≡ false → is_mirror_full state packet ≡ false
   pub settles : is_past state packet ≡ false → Settles (with_packet state packet) taken
 
--- These bytes are a packet, which is taken.
+-- These bytes are a packet, and it is taken.
 pub record TakesBytes (state : MirrorState) (kind : PacketKind) (sheet : Sheet) (bytes : Text)
     (taken : MirrorState) : Type 0 where
   pub packet : Packet
   pub is : IsPacket kind sheet bytes packet
   pub takes : TakesPacket state packet taken
 
--- They are a packet that would be kept, and there is no room for it.
+-- These bytes are a packet that would be kept, but there is no room for it.
 pub record HasNoRoom (state : MirrorState) (kind : PacketKind) (sheet : Sheet) (bytes : Text) : Type 0 where
   pub packet : Packet
   pub is : IsPacket kind sheet bytes packet
@@ -150,8 +149,7 @@ pub record HasNoRoom (state : MirrorState) (kind : PacketKind) (sheet : Sheet) (
 
 -- ---- what a mirror shows
 
--- The bytes are what is shown of a sheet: its copy in JSON, whose head has the number of the publication that
--- is shown.
+-- The bytes are what is shown of a sheet: its copy in JSON, whose head has the number of the publication that is shown.
 pub record IsSheetShown (state : MirrorState) (sheet : Sheet) (bytes : Text) : Type 0 where
   pub head : Head
   pub head_is : (sheet_copy state.tables sheet).head ≡ Some head

@@ -9,7 +9,7 @@ use lei_outside::{List, NoMemory};
 use std::alloc::Global;
 use std::marker::Model;
 
-/// What a delta has of a key, with a row that tables may hold too. Contracts see the change.
+/// What a delta has for a key, with a row that tables may hold too. Contracts see the change.
 #[derive(Drop)]
 pub struct SharedChange {
     puts: bool,
@@ -26,7 +26,7 @@ impl Model for SharedChange {
 }
 
 impl SharedChange {
-    /// The change, whose row moves.
+    /// The change, whose row is moved here.
     pub fn of(alloc: Global, change: Change) -> Result<Self, NoMemory>
         ensures { IfOk result (λ shared. shared ≡ change) }
     {
@@ -42,7 +42,7 @@ impl SharedChange {
         }
     }
 
-    /// Whether it puts its row, and doesn't drop the row of its key.
+    /// Whether it puts its row. If not, it drops the row of its key.
     pub fn puts(&self) -> bool
         ensures { result ≡ is_put self.now }
     {
@@ -57,7 +57,7 @@ impl SharedChange {
     }
 }
 
-/// Changes that were read, with rows for several holders.
+/// Changes that were read, with rows that can be shared.
 pub fn shared_changes(alloc: Global, changes: Vec<Change>) -> Result<List<SharedChange>, NoMemory>
     ensures { IfOk result (λ shared. shared ≡ changes.items) }
 {

@@ -8,12 +8,12 @@ use lei_outside::NoMemory;
 /// Why a packet isn't taken.
 #[derive(Clone, Copy, Debug, PartialEq, Eq)]
 pub enum MirrorFault {
-    /// It isn't printed as a copy, or as a delta, of the sheet in JSON.
+    /// Its bytes aren't a printed copy, or a printed delta, of the sheet in JSON.
     NotRead,
-    /// It would be kept, but 64 packets are kept already, or those and this one have more than 536,870,912
-    /// bytes.
+    /// It would be kept, but 64 packets are already kept, or those and this one have more than 536,870,912 bytes in
+    /// total.
     Full,
-    /// Memory ran out.
+    /// Out of memory.
     NoMemory,
 }
 
@@ -30,7 +30,7 @@ impl From<NoMemory> for MirrorFault {
 pub enum ShowFault {
     /// No publication is shown yet.
     NothingHeld,
-    /// Memory ran out.
+    /// Out of memory.
     NoMemory,
 }
 

@@ -1,4 +1,4 @@
-//! Packets that are kept ahead.
+//! Packets that are kept because they are ahead of what is shown.
 ghost use Rattle.std.specs.Prelude.{◌≡◌, ◌≤◌, ◌+◌, ◌-◌, ◌∷◌, ◌++◌, ◌||◌, [], filter, length, nat_le, nat_lt, OnErr, OnOk};
 ghost use Rattle.std.specs.List.{All, list_any};
 ghost use Rattle.lei_mirror.specs.KeptPackets.{IsSpelledBy};
@@ -14,14 +14,13 @@ use crate::tables::Tables;
 use lei_outside::NoMemory;
 use std::alloc::Global;
 
-// How many packets are kept at most.
+// The most packets that are kept.
 const PACKETS: usize = 64;
 
-// How many bytes they have at most.
+// The most bytes that they have in total.
 const BYTES: u64 = 536_870_912;
 
-/// Whether a packet changes nothing: its publication isn't after the one that is shown, or one like it is
-/// kept.
+/// Whether a packet changes nothing: its publication isn't after the one that is shown, or one like it is kept.
 pub fn is_past(tables: &Tables, kept: &[KeptPacket], packet: &Packet) -> bool
     ensures { result ≡ (nat_le packet.now.head.publication tables.now.publication
         || list_any (packets.is_like packet.now) kept.now) }
@@ -49,7 +48,7 @@ pub fn is_full(kept: &[KeptPacket], packet: &Packet) -> bool
     kept.len() >= PACKETS || room(kept) < packet.size
 }
 
-// How many more bytes may be kept.
+// The number of bytes that may still be kept.
 fn room(kept: &[KeptPacket]) -> u64
     ensures { result ≡ 536_870_912 - spec.bytes_in kept.now }
 {
@@ -60,8 +59,9 @@ fn room(kept: &[KeptPacket]) -> u64
     room
 }
 
-/// Keeps a packet after the others, and moves as far as it then can. While it moves, the packet has what was read
-/// of it. If it is still ahead after that, only its bytes are kept. If memory runs out, nothing has changed.
+/// Keeps a packet after the others, and moves the mirror as far as it then can. During the move the packet is held as
+/// what was read from it. If it is still ahead afterwards, only its bytes are kept. If memory runs out, nothing has
+/// changed.
 pub fn keep(
     alloc: Global,
     tables: &mut Tables,
@@ -94,7 +94,7 @@ pub fn keep(
     Ok(())
 }
 
-// Keeps a packet after the others, by its bytes, if it is ahead of this publication.
+// Keeps a packet after the others, as its bytes, if it is ahead of this publication.
 fn keep_ahead(
     alloc: Global,
     shown: u32,

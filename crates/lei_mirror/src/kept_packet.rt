@@ -13,26 +13,26 @@ use std::marker::Model;
 use std::snapshot::Snapshot;
 use std::sync::Arc;
 
-/// What is held of a packet beside its head.
+/// What is held of a packet in addition to its head.
 #[derive(Drop)]
 pub enum HeldBody {
-    /// Its bytes, in memory of their own.
+    /// A copy of its bytes.
     Bytes(Bytes),
-    /// What was read of them.
+    /// What was read from its bytes.
     Read(Arc<PacketBody, Global>),
 }
 
-/// A packet that is kept. It is held as what was read of it until the mirror has moved, and after that as its
-/// bytes, which are read once more when it is used. Contracts see the packet.
+/// A packet that is kept. Until the mirror has moved, it is held as what was read from its bytes. After that it is held
+/// as its bytes, which are read again when it is used. Contracts see the packet.
 #[derive(Drop)]
 pub struct KeptPacket {
     kind: PacketKind,
     sheet: Sheet,
     head: Head,
-    // How many bytes it has.
+    // The number of its bytes.
     size: u64,
     body: HeldBody,
-    // The packet. It takes no bytes.
+    // The packet, for contracts. It takes up no memory.
     packet: Snapshot<Packet>,
 }
 
@@ -71,7 +71,7 @@ impl KeptPacket {
         })
     }
 
-    /// The same packet, held as its bytes. What was read of them is dropped first.
+    /// The same packet, held as its bytes. What was read from them is dropped first.
     pub fn into_bytes(self, alloc: Global, bytes: &[u8]) -> Result<Self, NoMemory>
         requires { IsSpelledBy bytes.now self }
         ensures { IfOk result (λ kept. kept ≡ self) }
@@ -110,14 +110,14 @@ impl KeptPacket {
         self.head.publication
     }
 
-    /// How many bytes it has.
+    /// The number of its bytes.
     pub fn size(&self) -> u64
         ensures { result ≡ self.now.size }
     {
         self.size
     }
 
-    /// Its rows or its changes. If it is held as its bytes, they are read here.
+    /// Its rows or its changes. If the packet is held as its bytes, they are read here.
     pub fn body(&self, alloc: Global) -> Result<Arc<PacketBody, Global>, NoMemory>
         ensures { IfOk result (λ body. arc_value body ≡ self.now.body) }
     {
@@ -137,14 +137,14 @@ impl KeptPacket {
         is_kind(self.kind, kind) && is_sheet(self.sheet, sheet) && self.head.publication == number
     }
 
-    /// Whether it is the copy of the publication with this number.
+    /// Whether it is the copy of the sheet in the publication with this number.
     pub fn is_copy_of(&self, sheet: Sheet, number: u32) -> bool
         ensures { result ≡ spec.is_copy_of sheet number self.now }
     {
         self.is_of(PacketKind::Copy, sheet, number)
     }
 
-    /// Whether it is a delta to this publication, from one with a number from 1 to `shown`.
+    /// Whether it is a delta of the sheet to this publication, from one with a number from 1 to `shown`.
     pub fn is_delta_to(&self, sheet: Sheet, number: u32, shown: u32) -> bool
         ensures { result ≡ spec.is_delta_to sheet number shown self.now }
     {

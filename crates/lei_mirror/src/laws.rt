@@ -7,16 +7,15 @@ ghost use Rattle.lei_mirror.specs.declared.packet.PacketKind.{PacketKind};
 ghost use Rattle.lei_mirror.specs.Mirrors.{MirrorState, TakesPacket};
 ghost use Rattle.lei_mirror.specs.Packets.{IsPacket};
 
-/// Bytes are at most one packet of a kind and a sheet. It is said of fewer than 2^64 bytes, as all in memory
-/// are.
+/// Bytes are at most one packet of a kind and a sheet. The law covers fewer than 2^64 bytes; bytes in memory are always
+/// fewer.
 pub fn bytes_spell_one_packet()
     ensures { (kind : PacketKind) (sheet : Sheet) (bytes : Text) (packet other : Packet)
         → length bytes < 2 ^ 64 → IsPacket kind sheet bytes packet → IsPacket kind sheet bytes other
         → packet ≡ other }
 {}
 
-/// A packet that is taken leaves one mirror, and no other: how far it moves is told by what it shows and
-/// keeps.
+/// When a mirror takes a packet, only one mirror can result: how far it moves depends only on what it shows and keeps.
 pub fn packets_are_taken_in_one_way()
     ensures { (state : MirrorState) (packet : Packet) (taken other : MirrorState)
         → TakesPacket state packet taken → TakesPacket state packet other → taken ≡ other }

@@ -1,4 +1,4 @@
-//! Rows and changes, merged in the order of their keys.
+//! Merges rows and changes in the order of their keys.
 ghost use Rattle.std.specs.Prelude.{◌≡◌, ◌≤◌, ◌++◌, ◌∷◌, [], length, flat_map, IfOk, OnOk};
 ghost use Rattle.std.specs.List.{All};
 ghost use Rattle.copy_csv.specs.Rows.{AreChanges, AreRows, changed_row};
@@ -20,7 +20,7 @@ impl HeldChange for SharedChange {
     }
 }
 
-/// The rows after the changes. Each row is passed once, and none is copied.
+/// The rows after the changes. Each row is visited once, and none is copied.
 pub fn merge(
     alloc: Global,
     sheet: Sheet,
@@ -41,8 +41,8 @@ pub fn merge(
     Ok(merged)
 }
 
-// Puts after the others what the changes from a place on put before a row, and what stands in its place:
-// itself if no change has its key. Gives the place of the first change that is left.
+// Appends what the changes from an index on put before a row and in its place. The row itself is appended if no change
+// has its key. Returns the index of the first change that is left.
 fn push_next(
     made: &mut Vec<SharedRow>,
     changes: &[SharedChange],
@@ -63,7 +63,7 @@ fn push_next(
     Ok(left)
 }
 
-// Puts what all of these changes put after the others.
+// Appends what all of these changes put.
 fn push_all(made: &mut Vec<SharedRow>, changes: &[SharedChange]) -> Result<(), NoMemory>
     ensures { OnOk result (made.new.items ≡ made.old.items ++ flat_map put_by changes.now) }
 {
@@ -73,7 +73,7 @@ fn push_all(made: &mut Vec<SharedRow>, changes: &[SharedChange]) -> Result<(), N
     Ok(())
 }
 
-// Puts what a change puts after the others.
+// Appends what a change puts.
 fn push_change(made: &mut Vec<SharedRow>, change: &SharedChange) -> Result<(), NoMemory>
     ensures { OnOk result (made.new.items ≡ made.old.items ++ put_by change.now) }
 {

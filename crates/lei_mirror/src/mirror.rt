@@ -1,4 +1,4 @@
-//! The mirror.
+//! The mirror, which takes packets and shows copies.
 ghost use Rattle.std.specs.Prelude.{◌≡◌, ◌≤◌, false, true, length, IfOk, IsErrOf, OnErr, OnOk};
 ghost use Rattle.copy_forms.specs.Trails.{IsSound, Trail};
 ghost use Rattle.lei_mirror.specs.declared.faults.MirrorFault.{MirrorFault as Taking};
@@ -25,14 +25,14 @@ use std::marker::Model;
 /// What a mirror shows and keeps, in numbers.
 #[derive(Clone, Copy, Debug, PartialEq, Eq)]
 pub struct Standing {
-    /// The number of the publication that is shown: 0 if none is.
+    /// The number of the publication that is shown, or 0 if none is.
     pub shown: u32,
-    /// How many packets are kept ahead of it.
+    /// The number of packets that are kept ahead of it.
     pub kept: u32,
 }
 
-/// The three tables of one publication, and packets of later ones. Contracts see the number, the heads and
-/// the rows of the tables, and the packets in the order in which they came.
+/// The three tables of one publication, and packets of later ones. Contracts see the number, the heads and the rows of
+/// the tables, and the packets in order of arrival.
 #[derive(Drop)]
 pub struct Mirror {
     alloc: Global,
@@ -65,9 +65,9 @@ impl Mirror {
         })
     }
 
-    /// Takes a copy or a delta of a sheet in JSON. It is read here. If the mirror can't move to its publication
-    /// yet, it is kept as its bytes, and read once more when the mirror moves there. The faults are reported in
-    /// the order of `MirrorFault`, and after one the mirror is as it was.
+    /// Takes a copy or a delta of a sheet in JSON, which is read here. If the mirror can't move to its publication yet,
+    /// it is kept as its bytes, and read again when the mirror moves there. The faults are reported in the order of
+    /// `MirrorFault`. After a fault the mirror is as it was.
     pub fn take(
         &mut self,
         kind: PacketKind,
@@ -90,7 +90,7 @@ impl Mirror {
         Ok(self.standing())
     }
 
-    /// The copy of a sheet in JSON, of the publication that is shown.
+    /// The copy of a sheet in JSON, from the publication that is shown.
     pub fn show(&self, sheet: Sheet) -> Result<Bytes, ShowFault>
         ensures copy { IfOk result (λ bytes. IsSheetShown self.now sheet bytes) }
         ensures shown { OnOk result (1 ≤ self.now.tables.publication) }
@@ -105,7 +105,7 @@ impl Mirror {
         Ok(rows_text(self.alloc, &head, copy.rows.as_slice())?)
     }
 
-    // Takes a packet that was read of these bytes.
+    // Takes a packet that was read from these bytes.
     fn take_packet(&mut self, packet: Packet, bytes: &[u8]) -> Result<(), MirrorFault>
         requires sound { IsSoundPacket packet }
         requires bytes { IsSpelledBy bytes.now packet }
@@ -126,7 +126,7 @@ impl Mirror {
         Ok(())
     }
 
-    // What it shows and keeps.
+    // What the mirror shows and keeps, in numbers.
     fn standing(&self) -> Standing
         ensures shown { result.shown ≡ self.now.tables.publication }
         ensures kept { result.kept ≡ length self.now.kept }

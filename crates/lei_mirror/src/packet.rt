@@ -1,4 +1,4 @@
-//! Packets: copies and deltas, as they are read.
+//! Packets: copies and deltas that were read.
 ghost use Rattle.std.specs.Prelude.{◌≡◌};
 ghost use Rattle.lei_mirror.specs.Packets as spec;
 
@@ -7,16 +7,16 @@ use crate::shared::SharedRows;
 use copy_csv::{Head, Sheet};
 use lei_outside::List;
 
-/// What a packet is.
+/// Whether a packet is a copy or a delta.
 #[derive(Clone, Copy, Debug, PartialEq, Eq)]
 pub enum PacketKind {
     /// A golden copy of a sheet.
     Copy,
-    /// What changed in a sheet between two publications.
+    /// The changes of a sheet between two publications.
     Delta,
 }
 
-/// What a packet has after its head.
+/// What follows the head of a packet.
 #[derive(Drop)]
 pub enum PacketBody {
     /// The rows of a copy.
@@ -28,11 +28,11 @@ pub enum PacketBody {
 /// A copy or a delta that was read.
 #[derive(Drop)]
 pub struct Packet {
-    /// The sheet that it is of.
+    /// Its sheet.
     pub sheet: Sheet,
-    /// The moment and the number of its publication, and in a delta the number of the one that it goes from.
+    /// The moment and the number of its publication, and in a delta the number of the publication that it starts from.
     pub head: Head,
-    /// How many bytes it came in.
+    /// The number of bytes that it was read from.
     pub size: u64,
     /// Its rows or its changes.
     pub body: PacketBody,
@@ -50,7 +50,7 @@ impl Packet {
     }
 }
 
-/// Whether two sheets are one.
+/// Whether two sheets are the same.
 pub fn is_sheet(sheet: Sheet, other: Sheet) -> bool
     ensures { result ≡ spec.is_sheet sheet other }
 {
@@ -61,7 +61,7 @@ pub fn is_sheet(sheet: Sheet, other: Sheet) -> bool
     }
 }
 
-/// Whether two kinds are one.
+/// Whether two kinds are the same.
 pub fn is_kind(kind: PacketKind, other: PacketKind) -> bool
     ensures { result ≡ spec.is_kind kind other }
 {

@@ -1,4 +1,4 @@
-//! Packets, read.
+//! Reads packets.
 ghost use Rattle.std.specs.Prelude.{◌≡◌, IfOk, IsErrOf};
 ghost use Rattle.lei_mirror.specs.declared.faults.MirrorFault.{MirrorFault as Fault};
 ghost use Rattle.lei_mirror.specs.declared.packet.Packet.{Packet as Spelled};
@@ -14,7 +14,7 @@ use copy_forms::{CopyRead, DeltaRead, Form, FormFault, Sheet, read_copy, read_de
 use lei_outside::NoMemory;
 use std::alloc::Global;
 
-/// The packet that these bytes are. Its rows are made here.
+/// Reads the packet that these bytes are, and builds its rows. `NotRead` is returned if they aren't a packet.
 pub fn read_packet(
     alloc: Global,
     kind: PacketKind,
@@ -32,7 +32,7 @@ pub fn read_packet(
     }
 }
 
-/// The rows or the changes of the packet that these bytes are, read once more. It fails only for want of memory.
+/// The rows or the changes of the packet that these bytes are, read again. It fails only if memory runs out.
 pub fn read_body(
     alloc: Global,
     kind: PacketKind,

@@ -8,7 +8,7 @@ ghost use Rattle.lei_mirror.specs.Settling.{FindsGreatest, lent};
 use crate::kept_packet::KeptPacket;
 use copy_csv::Sheet;
 
-/// What brings a sheet to a publication: its copy, or else the first delta to it from a publication that
+/// The packet that brings a sheet to a publication: its copy, or else the first delta to it from a publication that
 /// isn't after the one that is shown.
 pub fn packet_for(shown: u32, kept: &[KeptPacket], number: u32, sheet: Sheet) -> Option<&KeptPacket>
     ensures { lent result ≡ spec.packet_for shown kept.now number sheet }
@@ -41,7 +41,7 @@ fn delta_among(kept: &[KeptPacket], sheet: Sheet, number: u32, shown: u32) -> Op
     None
 }
 
-// Whether a publication is ready.
+// Whether a publication is ready: it is after the one that is shown, and a packet brings each sheet to it.
 fn is_ready(shown: u32, kept: &[KeptPacket], number: u32) -> bool
     ensures { IsTrue result ↔ spec.IsReadyToShow shown kept.now number }
 {
@@ -51,7 +51,7 @@ fn is_ready(shown: u32, kept: &[KeptPacket], number: u32) -> bool
         && packet_for(shown, kept, number, Sheet::Repex).is_some()
 }
 
-/// The greatest publication that is ready.
+/// The greatest publication that is ready, if there is one.
 pub fn greatest_ready(shown: u32, kept: &[KeptPacket]) -> Option<u32>
     ensures { FindsGreatest shown kept.now result }
 {

@@ -1,4 +1,4 @@
-//! A mirror that moves as far as it can.
+//! Moves a mirror as far as it can.
 ghost use Rattle.std.specs.Prelude.{◌≡◌, ◌≤◌, IfOk};
 ghost use Rattle.std.specs.List.{All};
 ghost use Rattle.copy_csv.specs.Rows.{AreRows};
@@ -15,8 +15,8 @@ use copy_csv::{Head, Sheet};
 use lei_outside::NoMemory;
 use std::alloc::Global;
 
-/// The tables to which these packets bring a mirror with these tables. They are made beside the old ones,
-/// with the rows that stay in common, so that nothing is to be taken back if memory runs out.
+/// The tables to which these packets bring a mirror with these tables. They are built while the old ones remain, and
+/// share the rows that stay. So nothing has to be undone if memory runs out.
 pub fn settle(alloc: Global, tables: &Tables, kept: &[KeptPacket]) -> Result<Tables, NoMemory>
     requires tables { AreTables tables.now }
     requires packets { All IsSoundPacket kept.now }
@@ -31,7 +31,7 @@ pub fn settle(alloc: Global, tables: &Tables, kept: &[KeptPacket]) -> Result<Tab
     Ok(now)
 }
 
-// The tables of another publication, each brought there by a packet. What is read again of one packet is dropped
+// The tables of another publication, each brought there by a packet. What is read again from one packet is dropped
 // before the next one is read.
 fn tables_at(
     alloc: Global,
@@ -55,7 +55,7 @@ fn tables_at(
     })
 }
 
-// What is shown of a sheet after a packet of it.
+// What is shown of a sheet after a packet of this sheet, if there is one.
 fn copy_after(
     alloc: Global,
     sheet: Sheet,

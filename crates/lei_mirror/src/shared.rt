@@ -1,4 +1,4 @@
-//! Rows that tables and packets have in common.
+//! Rows that tables and packets share.
 ghost use Rattle.std.specs.Prelude.{◌≡◌, IfOk};
 
 use copy_csv::Row;
@@ -7,8 +7,7 @@ use std::alloc::Global;
 use std::marker::Model;
 use std::sync::Arc;
 
-/// A row that its holders have in common: who holds it once more takes no memory for it. Contracts see the
-/// row.
+/// A row that its holders share: another holder needs no copy of it. Contracts see the row.
 #[derive(Drop)]
 pub struct SharedRow {
     row: Arc<Row, Global>,
@@ -24,7 +23,7 @@ impl Model for SharedRow {
 }
 
 impl SharedRow {
-    /// The row, which moves.
+    /// The row, moved here.
     pub fn of(alloc: Global, row: Row) -> Result<Self, NoMemory>
         ensures { IfOk result (λ shared. shared ≡ row) }
     {
@@ -42,7 +41,7 @@ impl SharedRow {
         })
     }
 
-    /// The row, lent.
+    /// The row.
     pub fn row(&self) -> &Row
         ensures { result.now ≡ self.now }
     {
@@ -50,7 +49,7 @@ impl SharedRow {
     }
 }
 
-/// The rows of a table, which its holders have in common. Contracts see the list of them.
+/// The rows of a table, which its holders share. Contracts see the list of rows.
 #[derive(Drop)]
 pub struct SharedRows {
     rows: Arc<Vec<SharedRow>, Global>,
@@ -67,7 +66,7 @@ impl Model for SharedRows {
 }
 
 impl SharedRows {
-    /// These rows, which move.
+    /// These rows, moved here.
     pub fn of(alloc: Global, rows: Vec<SharedRow>) -> Result<Self, NoMemory>
         ensures { IfOk result (λ shared. shared ≡ rows.items) }
     {
@@ -76,7 +75,7 @@ impl SharedRows {
         })
     }
 
-    /// Rows that were read, each for several holders.
+    /// Rows that were read, each now one that can be shared.
     pub fn of_read(alloc: Global, rows: List<Row>) -> Result<Self, NoMemory>
         ensures { IfOk result (λ shared. shared ≡ rows) }
     {
@@ -93,7 +92,7 @@ impl SharedRows {
         })
     }
 
-    /// The rows, lent.
+    /// The rows as a slice.
     pub fn as_slice(&self) -> &[SharedRow]
         ensures { result.now ≡ self.now }
     {

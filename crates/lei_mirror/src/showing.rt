@@ -16,7 +16,7 @@ pub fn rows_text(alloc: Global, head: &Head, rows: &[SharedRow]) -> Result<Bytes
     json_rows_text(alloc, head, &lent, text_room(rows))
 }
 
-// The rows, lent.
+// References to the rows.
 fn lent_rows<'a>(alloc: Global, rows: &'a [SharedRow]) -> Result<Vec<&'a Row>, NoMemory>
     ensures { IfOk result (λ made. map (λ row. row.now) made.items ≡ rows.now) }
 {
@@ -27,7 +27,7 @@ fn lent_rows<'a>(alloc: Global, rows: &'a [SharedRow]) -> Result<Vec<&'a Row>, N
     Ok(made)
 }
 
-// About how many bytes their texts take, and as much again for the names of their fields.
+// An estimate of the text's size in bytes: that of the rows' texts, and as much again for the names of the fields.
 fn text_room(rows: &[SharedRow]) -> usize {
     let mut room = 0_usize;
     for row in rows {

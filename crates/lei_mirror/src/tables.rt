@@ -10,14 +10,14 @@ use std::alloc::Global;
 /// What is shown of a sheet.
 #[derive(Drop)]
 pub struct SheetCopy {
-    /// The head of its copy: none before the first one.
+    /// The head of its copy, or none before the first one.
     pub head: Option<Head>,
-    /// Its rows in the order of their keys.
+    /// Its rows, in the order of their keys.
     pub rows: SharedRows,
 }
 
 impl SheetCopy {
-    /// The copy before the first one.
+    /// What is shown of a sheet before the first copy.
     pub fn empty(alloc: Global) -> Result<Self, NoMemory>
         ensures { IfOk result (λ copy. copy ≡ empty_copy) }
     {
@@ -41,7 +41,7 @@ impl SheetCopy {
 /// The tables of one publication.
 #[derive(Drop)]
 pub struct Tables {
-    /// The number of the publication: 0 before the first one.
+    /// The number of the publication, or 0 before the first one.
     pub publication: u32,
     pub lei: SheetCopy,
     pub rr: SheetCopy,

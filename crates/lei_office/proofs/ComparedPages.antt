@@ -1,4 +1,4 @@
--- Pages of cells that are compared, over a keeper that may tell its tables.
+-- Pages of cells that are compared, with a keeper that may tell its tables.
 use Rattle.std.proofs.Common.{◌≡◌, ℕ, ◌≤◌, ◌+◌, ◌*◌, Bool, true, false, nat_lt, List, Option, Some, None, refl, sym, subst, ◌∙◌, arith}
 use Rattle.std.proofs.lemmas.Bool.{ltb-false, ltb-true}
 use Rattle.std.specs.Prelude.{IfSome}
@@ -21,7 +21,7 @@ pub page-compares : (told : Option KeptTables) (held : Held) (bounds : ℕ × �
 page-compares None held bounds kept made found of_kept of_made is = tt
 page-compares (Some tables) held bounds kept made found of_kept of_made is = compares_so kept (kept_page tables bounds) made (made_page held bounds) found of_kept of_made is
 
--- ---- a keeper that is asked once more
+-- ---- one more call of a keeper
 
 pub stays-join : (a b c : Option KeptTables) → Stays a b → Stays b c → Stays a c
 stays-join None None None first second = tt

@@ -63,12 +63,12 @@ rose_with reply false before now is kept rose =
     let T : Reply → Type 0 = λ r. is_keeper_fault r ≡ false in
     subst R (sym (faults_of reply false is)) (RoseBy-none before now (kept (λ told. let bad : true ≡ false = subst T told is in cc)))
 
--- the count rises where the reply reports it
+-- the count rises if the reply reports a fault
 pub reply_rose : (reply : Reply) (before now : ℕ) → (¬ (reply ≡ Words KeeperFault) → now ≡ before)
     → (reply ≡ Words KeeperFault → Rose before now) → RoseBy (keeper_faults (reply ∷ [])) before now
 reply_rose reply before now kept rose = rose_with reply (is_keeper_fault reply) before now refl kept rose
 
--- ---- a refusal that is no KEEPER_FAULT
+-- ---- a refusal other than KEEPER_FAULT
 
 not_counted : (refusal : Refusal) (test : Bool) → is_keeper_fault (Words refusal) ≡ test → refusal_status_code refusal ≢ 503
     → keeper_faults (Words refusal ∷ []) ≡ 0
@@ -85,7 +85,7 @@ not_503 refusal none same =
     let counted : keeper_faults (Words refusal ∷ []) ≡ 1 = ap F same in
     omega (arith, none, counted)
 
--- ---- where the count didn't rise
+-- ---- the count didn't rise
 
 more_faults : (reply : Reply) (replies : List Reply) → keeper_faults replies ≤ keeper_faults (reply ∷ replies)
 more_faults reply replies = omega (arith, keeper_faults-append (reply ∷ []) replies)

@@ -10,7 +10,7 @@ head_same c d a b is = cc
 tail_same : (c d : KeptCell) (a b : List KeptCell) → c ∷ a ≡ d ∷ b → a ≡ b
 tail_same c d a b is = cc
 
--- behind a cell that is the same
+-- after a cell that is the same in both lists
 more : (k m : KeptCell) (kept made : List KeptCell) (damage : Damage) → k ≡ m → DifferFirst kept made damage → DifferFirst (k ∷ kept) (m ∷ made) damage
 more k m kept made damage same is = record {
   front = m ∷ is.front;
@@ -21,7 +21,7 @@ more k m kept made damage same is = record {
   differs = is.differs;
 }
 
--- a cell that is kept isn't the one at its place
+-- a kept cell isn't the one at its place
 pub differs-at : (kept made : List KeptCell) (place : ℕ) (cell : KeptCell) (damage : Damage) → take place kept ≡ take place made → place ≤ length made
     → slice_get kept place ≡ Some cell → (slice_get made place ≡ Some cell → ⊥) → damage ≡ not_made cell (slice_get made place) → DifferFirst kept made damage
 differs-at [] made place cell damage same within at other is = cc
@@ -43,7 +43,7 @@ differs-at (k ∷ kept) (m ∷ made) (suc place) cell damage same within at othe
     more k m kept made damage (head_same k m (take place kept) (take place made) same)
     (differs-at kept made place cell damage (tail_same k m (take place kept) (take place made) same) (omega (arith, within)) at other is)
 
--- all that are kept are the same, and the register has more
+-- all kept cells are the same, and the register has more
 pub lacks-at : (kept made : List KeptCell) (cell : KeptCell) (damage : Damage) → take (length kept) kept ≡ take (length kept) made → slice_get made (length kept) ≡ Some cell
     → damage ≡ not_kept cell → DifferFirst kept made damage
 lacks-at [] [] cell damage same at is = cc
@@ -55,7 +55,7 @@ lacks-at (k ∷ kept) (m ∷ made) cell damage same at is =
     more k m kept made damage (head_same k m (take (length kept) kept) (take (length kept) made) same)
     (lacks-at kept made cell damage (tail_same k m (take (length kept) kept) (take (length kept) made) same) at is)
 
--- all are the same
+-- all cells are the same
 pub same-all : (kept made : List KeptCell) → take (length kept) kept ≡ take (length kept) made → slice_get made (length kept) ≡ None → kept ≡ made
 same-all [] [] same at = refl
 same-all [] (m ∷ made) same at = cc

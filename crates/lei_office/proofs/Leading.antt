@@ -94,17 +94,17 @@ whole m last (e ∷ es) rise most =
     let few : nat_le e.seq last ≡ true = grind (arith, nat_tests) in
     rw (zero_below, few) (ap (λ l. e ∷ l) (whole e.seq last es rise.1 most))
 
--- all stored entries are those up to the last number
+-- the entries up to the last number are all stored entries
 pub all-entries : (tables : KeptTables) → AreKept tables → entries_between 0 (last_number tables) tables ≡ tables.entries
 unfolding between
 all-entries tables kept = whole 0 (last_number tables) tables.entries kept.entries (omega (arith, last-of tables.entries))
 
--- those up to a number, and those of the next page, are those up to the page's end
+-- the entries up to a number, followed by those of the next page, are those up to the page's end
 pub page-behind : (after upto : ℕ) (tables : KeptTables) → AreKept tables → after ≤ upto → entries_between 0 upto tables ≡ entries_between 0 after tables ++ entries_between after upto tables
 unfolding between
 page-behind after upto tables kept up = split after upto 0 tables.entries up kept.entries
 
--- what is found in a range has a number in it
+-- the first entry that is found in a range has a number in it
 head-passes : (upto last : ℕ) (es rest : History) (e : KeptEntry) → between upto last es ≡ e ∷ rest → upto < e.seq
 unfolding between
 head-passes upto last [] rest e is = cc
@@ -134,7 +134,7 @@ pub legal-last : (limits : Limits) (history : History) → Legal (office_of limi
 unfolding Legal
 legal-last limits history legal = last-legal limits [] history legal refl
 
--- ---- damage of a page is damage of all
+-- ---- damage of a page is damage of all entries
 
 pub page-damage : (limits : Limits) (after upto last : ℕ) (before : History) (tables : KeptTables) (damage : Damage) → AreKept tables → last ≡ last_number tables → after ≤ upto → upto ≤ last
     → before ≡ entries_between 0 after tables → IsPageDamage limits before (entries_between after upto tables) upto damage → IsEntryDamage limits tables.entries damage
@@ -165,7 +165,7 @@ page-damage limits after upto last before tables damage kept is_last up most is_
 
 -- ---- a page that is replayed
 
--- the page in front of a place, the entry there and the rest
+-- a page is what precedes a place, the entry there, and the rest
 cut-at : (page : History) (i : ℕ) (stored : KeptEntry) → i < length page → get_or page i stored ≡ stored → page ≡ take i page ++ stored ∷ drop (suc i) page
 cut-at page i stored within at = sym (take-append-drop i page) ∙ ap (λ l. take i page ++ l) (drop-cons page i stored within ∙ ap (λ e. e ∷ drop (suc i) page) at)
 
@@ -174,7 +174,7 @@ take-more [] i stored within at = absurd (omega (arith, within))
 take-more (e ∷ page) zero stored within at = ap (λ x. x ∷ []) at
 take-more (e ∷ page) (suc i) stored within at = ap (λ l. e ∷ l) (take-more page i stored (omega (arith, within)) at)
 
--- the entry there isn't what the replay makes, or another stands there
+-- the entry there isn't what the replay makes, or another entry is there
 pub page-differs : (before : OfficeState) (page : History) (now : OfficeState) (upto i : ℕ) (stored : KeptEntry) (damage : Damage) → i < length page → get_or page i stored ≡ stored
     → now ≡ office_of before.limits (before.history ++ take i page) → Legal now → EntryDiffers now (length now.history + 1) stored damage → IsPageDamage before.limits before.history page upto damage
 page-differs before page now upto i stored damage within at grown legal differs = record {
@@ -185,7 +185,7 @@ page-differs before page now upto i stored damage within at grown legal differs 
   differs = subst (λ o. EntryDiffers o (length o.history + 1) stored damage) grown differs;
 }
 
--- none is stored behind a page
+-- after a page no entry is stored
 pub page-lacks : (before : OfficeState) (page : History) (now : OfficeState) (upto : ℕ) (damage : Damage) → now ≡ office_of before.limits (before.history ++ page) → Legal now
     → length now.history + 1 ≤ upto → damage ≡ missing (length now.history + 1) → IsPageDamage before.limits before.history page upto damage
 page-lacks before page now upto damage grown legal few missed = record {

@@ -1,4 +1,4 @@
--- What is decided in the place of a stored entry.
+-- What is decided instead of a stored entry.
 use Rattle.std.proofs.Common.{◌≡◌, Some, None, refl}
 use Rattle.lei_outside.specs.declared.entry.KeptEntry.{KeptEntry}
 use Rattle.register_words.specs.declared.request.Request.{Request}

@@ -1,4 +1,4 @@
--- Pages of entries that are replayed, over a keeper that may tell its tables.
+-- Pages of entries that are replayed, with a keeper that may tell its tables.
 use Rattle.std.proofs.Common.{◌≡◌, ℕ, ◌≤◌, ◌&&◌, nat_le, nat_lt, true, false, cond, filter, [], ◌∷◌, ◌++◌, arith, Option, Some, None, refl, sym, ap, subst, ◌∙◌}
 use Rattle.std.specs.Prelude.{IfSome}
 use Rattle.std.proofs.lemmas.Bool.Decides.{nat_tests}
@@ -11,13 +11,13 @@ use Rattle.lei_office.specs.Opening.{IsPageDamage}
 use Rattle.lei_office.proofs.ComparedPages.{both-told}
 use Rattle.lei_office.proofs.Leading.{all-entries, page-behind, page-damage}
 
--- the tables are kept, their last number is this, and these are their entries up to a number
+-- the tables are kept, this is their last number, and this history is their entries up to a number
 pub record Reached (last after : ℕ) (history : History) (tables : KeptTables) : Type 0 where
   pub kept : AreKept tables
   pub last_is : last ≡ last_number tables
   pub are : history ≡ entries_between 0 after tables
 
--- the first difference of a page is that of all
+-- the first difference of a page is the first difference of all entries
 pub told-damage : (limits : Limits) (after upto last : ℕ) (before page : History) (damage : Damage) (told : Option KeptTables) → after ≤ upto → upto ≤ last
     → IfSome told (Reached last after before) → IfSome told (λ t. page ≡ entries_between after upto t) → IsPageDamage limits before page upto damage
     → IfSome told (λ t. IsEntryDamage limits t.entries damage)

@@ -46,7 +46,7 @@ none_rose : (refusal : Refusal) (faults : ℕ) → keeper_faults (Words refusal 
 none_rose refusal faults none =
     let R : ℕ → Type 0 = λ n. RoseBy n faults faults in subst R (sym none) (RoseBy-none faults faults refl)
 
--- a refusal of the reader, which is its own reply
+-- a refusal by the reader, which is its own reply
 pub refused_step : (who : CountedOffice) (refusal : Refusal) → MayBeAsked (Refuse refusal)
     → OfficeStep who (Refuse refusal) [] (Words refusal) who
 refused_step who refusal apart = record {
@@ -55,7 +55,7 @@ refused_step who refusal apart = record {
   untold = λ some. some;
 }
 
--- the same, by the words of rules
+-- the same for a refusal that the rules of a framing give
 pub refuses_so : (asked : Asked) (who : CountedOffice) (reply : Reply) → RefusesBy asked reply
     → OfficeStep who asked [] reply who
 refuses_so (Ask request) who reply refuses = absurd refuses
@@ -63,7 +63,7 @@ refuses_so (Refuse refusal) who reply (same, apart) =
     let S : Reply → Type 0 = λ r. OfficeStep who (Refuse refusal) [] r who in
     subst S (sym same) (refused_step who refusal apart)
 
--- what is read in the place of an upload may be asked, and is answered as the upload may be
+-- what is read instead of an upload may be asked, and each answer to it is one to the upload
 pub may_be_read : (meant read : Asked) → ReadsAs meant read → MayBeAsked read
 may_be_read (Ask request) read (takes, same) =
     subst MayBeAsked (sym same) (λ is. omega (arith, is))
@@ -77,7 +77,8 @@ reads_so (Ask request) read old new moments reply (takes, same) step =
     record { made = inr (takes, made.0, made.1, made.2); refuses = step.refuses; untold = step.untold }
 reads_so (Refuse refusal) read old new moments reply reads step = absurd reads.0
 
--- so a framing whose frames ask what may be asked fits whoever has an office; where a runtime has to be such, this is said
+-- so a framing whose frames ask only what may be asked fits every answerer that has an office. `S` is what such an
+-- answerer needs of its runtime
 pub office_fits : {A E : Type 0} (S : Type 0) (part : A → CountedOffice) (rules : Rules Asked Reply E) → S
     → ((bytes : List ℕ) (want : Want Asked E) (rest : List ℕ) → rules.whole bytes (Some want) rest → MayBeAsked want.asked)
     → ((bytes : List ℕ) (want : Want Asked E) → rules.ends bytes (Some want) → MayBeAsked want.asked)
@@ -95,14 +96,14 @@ office_fits S part rules such whole ends reads refuses = record {
 
 -- ---- sessions
 
--- no more replies report a fault of the keeper than its calls have failed
+-- at most as many replies report a fault of the keeper as its calls have failed
 pub office_counts : (old new : CountedOffice) (asks : List Asked) (moments : List ℤ) (replies : List Reply)
     → Session OfficeStep old asks moments replies new → RoseBy (keeper_faults replies) old.faults new.faults
 office_counts old new asks moments replies session =
     session-counts OfficeStep (λ (o : CountedOffice). o.faults) is_keeper_fault
     (λ first last ask given reply step. step.refuses) old new asks moments replies session
 
--- a session of its steps is one of the history
+-- a session of an office's steps is a session of its history
 pub office_session : (old new : CountedOffice) (asks : List Asked) (moments : List ℤ) (replies : List Reply)
     → Session OfficeStep old asks moments replies new → legal.Session old.office asks moments replies new.office
 office_session old new [] moments [] session = (session.0, ap (λ (o : CountedOffice). o.office) session.1)
@@ -111,7 +112,7 @@ office_session old new (ask ∷ asks) moments [] session = absurd session
 office_session old new (ask ∷ asks) moments (reply ∷ replies) (given, rest, between, parts, step, others) =
     (given, rest, between.office, parts, step.made, office_session between new asks rest replies others)
 
--- the replies where memory is never wanting and no call of the keeper fails
+-- the replies, if memory never runs out and no call of the keeper fails
 pub office_exact : (old new : CountedOffice) (asks : List Asked) (moments : List ℤ) (replies : List Reply)
     → Session OfficeStep old asks moments replies new → ¬ (Rose old.faults new.faults)
     → ¬ (Contains replies (Words NoMemory)) → replies ≡ replies_to old.office asks moments
@@ -121,7 +122,7 @@ office_exact old new asks moments replies session still lacks =
 
 -- ---- what the keeper tells
 
--- what was untold before a session stays so
+-- what was untold before a session stays untold
 session_untold : (old new : CountedOffice) (asks : List Asked) (moments : List ℤ) (replies : List Reply)
     → Session OfficeStep old asks moments replies new → StaysUntold old.kept new.kept
 session_untold =
@@ -160,7 +161,7 @@ ends_untold rules most Ended.NoMemory start now bytes left (few, inl (rest, (fra
 ends_untold rules most Ended.NoMemory start now bytes left (few, inr (frames, rest, want, are, wants, stopped)) =
     stopped_untold rules start now frames want stopped
 
--- and before serving whoever has an office
+-- the same for serving, with any answerer that has an office
 pub serves_untold : {A E : Type 0} (part : A → CountedOffice) (rules : Rules Asked Reply E) (most : ℕ) (ended : Ended E)
     (start now : Progress A) (left left_now : Option (List ℕ))
     → Serves (StepsBy part) rules most start left now left_now ended

@@ -1,4 +1,4 @@
--- An office as whoever answers in a session.
+-- An office as the answerer of a session.
 use Rattle.std.specs.Prelude.{◌≡◌, ◌≢◌, ℕ, ℤ, List, [], ◌∷◌, Option}
 use Rattle.lei_outside.specs.Keeping.{KeptTables}
 use Rattle.register_history.specs.Kept.{StaysUntold}
@@ -19,18 +19,19 @@ pub record CountedOffice : Type 0 where
   pub kept : Option KeptTables
   pub faults : ℕ
 
--- An office with its keeper as such, by the keeper's tables and count.
+-- An office with its keeper, reduced to the keeper's tables and count.
 abbrev pub counted : {K : Type 0} → (K → Option KeptTables) → (K → ℕ) → KeptOffice K → CountedOffice
 counted tables faults kept =
     record { office = kept.office; kept = tables kept.keeper; faults = faults kept.keeper }
 
--- What may be asked: a request whose number lies in its range. A refusal of the reader is no fault of the keeper.
+-- What may be asked: a request whose number is in its range, or a refusal by the reader that reports no fault of the
+-- keeper.
 abbrev pub MayBeAsked : Asked → Type 0
 MayBeAsked (Ask request) = IsNumbered request
 MayBeAsked (Refuse refusal) = refusal_status_code refusal ≢ 503
 
--- What was asked got this reply, at these moments, by one step from one office to the other. The reply is KEEPER_FAULT
--- only where a call of the keeper failed. If the keeper tells its tables after the step, it told them before.
+-- What was asked got this reply, at these moments, by one step from one office to the next. The reply is KEEPER_FAULT
+-- only if a call of the keeper failed. If the keeper tells its tables after the step, it told them before.
 pub record OfficeStep (old : CountedOffice) (asked : Asked) (moments : List ℤ) (reply : Reply)
     (new : CountedOffice) : Type 0
   where
@@ -38,6 +39,6 @@ pub record OfficeStep (old : CountedOffice) (asked : Asked) (moments : List ℤ)
     pub refuses : RoseBy (keeper_faults (reply ∷ [])) old.faults new.faults
     pub untold : StaysUntold old.kept new.kept
 
--- The same, of whoever has such an office.
+-- The same, for any value that has such an office.
 abbrev pub StepsBy : {A : Type 0} → (A → CountedOffice) → A → Asked → List ℤ → Reply → A → Type 0
 StepsBy part old asked moments reply new = OfficeStep (part old) asked moments reply (part new)

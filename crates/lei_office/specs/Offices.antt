@@ -1,4 +1,4 @@
--- An office with its keeper, as contracts see it, and what comes of opening one.
+-- An office with its keeper, as contracts see it, and the results of opening one.
 use Rattle.std.specs.Prelude.{◌≡◌, ℕ, Option, IfSome, ⊤}
 use Rattle.lei_outside.specs.Count.{Rose}
 use Rattle.lei_outside.specs.Keeping.{KeptTables}
@@ -8,26 +8,26 @@ use Rattle.lei_office.specs.declared.opening.OpenFault.TheVariants.{KeeperFault,
 use Rattle.register_history.specs.Damage.{IsDamage}
 use Rattle.register_history.specs.State.{OfficeState}
 
--- its limits with its history, and beside them the keeper
+-- the limits with the history, and the keeper
 pub record KeptOffice (K : Type 0) : Type 0 where
   pub office : OfficeState
   pub keeper : K
 
 -- ---- opening
 
--- the keeper that comes back where an office isn't opened
+-- the keeper that is returned if an office isn't opened
 abbrev pub keeper_back : {K : Type 0} → OpenFault K → K
 keeper_back (KeeperFault keeper) = keeper
 keeper_back (StoreDamaged keeper damage) = keeper
 keeper_back (NoMemory keeper) = keeper
 
--- A call of the keeper failed exactly where that is told: its count of faults rose then, and stayed else.
+-- A call of the keeper failed exactly if the fault says so: then its count of faults rose, and otherwise it stayed.
 abbrev pub FaultRose : {K : Type 0} → ℕ → ℕ → OpenFault K → Type 0
 FaultRose before now (KeeperFault keeper) = Rose before now
 FaultRose before now (StoreDamaged keeper damage) = now ≡ before
 FaultRose before now (NoMemory keeper) = now ≡ before
 
--- Where a store is told to be damaged and its keeper tells its tables, this is their first difference.
+-- If a store is reported as damaged and its keeper tells its tables, this is their first difference.
 abbrev pub IsRefused : {K : Type 0} → Limits → (K → Option KeptTables) → OpenFault K → Type 0
 IsRefused limits tables (KeeperFault keeper) = ⊤
 IsRefused limits tables (StoreDamaged keeper damage) = IfSome (tables keeper)

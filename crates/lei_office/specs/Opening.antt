@@ -19,26 +19,25 @@ use Rattle.register_state.specs.declared.decision.Decision.TheVariants.{Adds, St
 use Rattle.lei_office.specs.declared.opening.Found.{Found}
 use Rattle.lei_office.specs.declared.opening.Found.TheVariants.{Damaged, Sound}
 
--- What is told where this is decided in the place of a stored entry: the words of a reply, or the line of another
--- entry.
+-- The text that reports what is decided instead of a stored entry: the words of a reply, or the line of another entry.
 abbrev pub decision_text : Decision → Text
 decision_text (Stays reply) = reply_words reply
 decision_text (Adds e list) = entry_line e
 
--- A stored entry was replayed: where it is what the replay makes, it stands behind the others; else this is what the
--- replay makes in its place.
+-- A stored entry was replayed. If the replay makes the same entry, it now follows the others. Otherwise this is the
+-- text of what the replay makes instead.
 abbrev pub Replays : OfficeState → KeptEntry → OfficeState → Option Text → Type 0
 Replays before e after None = IsNext before e × (after ≡ with_entry before e)
 Replays before e after (Some text) = (IsNext before e → ⊥) × (text ≡ replayed before e)
 
--- What differs where a stored entry of the next number should be: none up to the last number of a page is stored, or
--- this is stored first.
+-- The difference at the next number. The page has no more entries, although it should reach the number `upto`, or its
+-- next entry differs.
 abbrev pub NextDiffers : OfficeState → ℕ → ℕ → History → Damage → Type 0
 NextDiffers office number upto [] damage = (number ≤ upto) × (damage ≡ missing number)
 NextDiffers office number upto (e ∷ rest) damage = EntryDiffers office number e damage
 
--- Of the stored entries of a page, behind those before them and up to a number, the first differs that doesn't lead on
--- a legal history.
+-- The damage is at the first stored entry of a page that doesn't continue a legal history. This history starts with the
+-- entries before the page, and should go up to a number.
 pub record IsPageDamage (limits : Limits) (before page : History) (upto : ℕ) (damage : Damage) : Type 0 where
   pub front : History
   pub rest : History
@@ -47,14 +46,14 @@ pub record IsPageDamage (limits : Limits) (before page : History) (upto : ℕ) (
   pub differs : NextDiffers (office_of limits (before ++ front)) (length (before ++ front) + 1)
       upto rest damage
 
--- The stored entries of a page were replayed: all of them lead on a legal history up to the number; or the first that
+-- The stored entries of a page were replayed. All of them continue a legal history up to the number, or the first that
 -- differs was found.
 abbrev pub PageReplays : OfficeState → History → ℕ → OfficeState → Option Damage → Type 0
 PageReplays before page upto after None =
     (after ≡ office_of before.limits (before.history ++ page)) × (upto ≤ length after.history) × Legal after
 PageReplays before page upto after (Some damage) = IsPageDamage before.limits before.history page upto damage
 
--- The same of all stored entries under these limits, where the keeper tells them.
+-- The same for all stored entries under these limits, if the keeper tells them.
 abbrev pub AllReplay : Limits → Option KeptTables → OfficeState → Option Damage → Type 0
 AllReplay limits told after None =
     IfSome told (λ tables. tables.entries ≡ after.history) × (after.limits ≡ limits) × Legal after
@@ -65,8 +64,8 @@ abbrev pub Compares : List KeptCell → List KeptCell → Option Damage → Type
 Compares kept made None = kept ≡ made
 Compares kept made (Some damage) = DifferFirst kept made damage
 
--- A store was read: its entries are a legal history under these limits whose tables the keeper tells; or this is damage
--- of the tables that the keeper tells.
+-- A store was read. Its entries are a legal history under these limits, and any tables that the keeper tells are those
+-- of this history. Or this is damage of the tables that the keeper tells.
 abbrev pub IsRead : Limits → Option KeptTables → OfficeState → Option Damage → Type 0
 IsRead limits told office None = (office.limits ≡ limits) × Legal office × Keeps told office
 IsRead limits told office (Some damage) = IfSome told (λ tables. IsDamage limits tables damage)
@@ -76,8 +75,8 @@ abbrev pub IsFound : Limits → Option KeptTables → Found → Type 0
 IsFound limits told (Sound register) = IsRead limits told register None
 IsFound limits told (Damaged damage) = IfSome told (λ tables. IsDamage limits tables damage)
 
--- All pages of cells are the same, so that the keeper tells the cells of the register; or the first difference was
--- found.
+-- All pages of cells are the same, so that any cells that the keeper tells are those of the register. Or the first
+-- difference was found.
 abbrev pub AllCompare : OfficeState → Option KeptTables → Option Damage → Type 0
 AllCompare office told None =
     IfSome told (λ tables. AreCellsOf (held_after office.limits office.history) tables.cells)

@@ -1,4 +1,4 @@
-//! An office as whoever answers in a session.
+//! An office as the answerer of a session.
 ghost use Rattle.std.specs.Prelude.{◌≡◌, [], ◌∷◌};
 ghost use Rattle.lei_outside.specs.Clock.{Gave, IsClockMoment};
 
@@ -17,7 +17,7 @@ impl<R: Threads + Sync, K: Keeper> Answers<R> for Office<K> {
 
     type Reply = Reply;
 
-    // an `impl` doesn't know that `R` is `Sync`, so whoever asks has to say it
+    // inside an `impl` it isn't known that `R` is `Sync`, so the caller has to say it
     ghost takes = { λ asked. MayBeAsked asked × IsSync R.row };
 
     ghost step = { StepsBy (counted K.tables K.faults) };

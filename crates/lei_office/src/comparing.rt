@@ -1,4 +1,4 @@
-//! The cells that a keeper has are compared with those of a register, in pages by the entries that touched them last.
+//! Compares the cells that a keeper has with those of a register, in pages by the entries that touched them last.
 ghost use Rattle.std.specs.Prelude.{◌≡◌, ◌≤◌, IfOk, IfSome, IsErrOf, IsTrue, Some, option_map, slice_get};
 ghost use Rattle.lei_outside.specs.Count.{Rose};
 ghost use Rattle.lei_outside.specs.Keeping.{AreKept, LeavesNoMore, Stays};
@@ -12,10 +12,10 @@ use register_history::Damage;
 use register_state::Register;
 use std::alloc::Global;
 
-/// So many entries are read at once, and the cells of so many are compared at once.
+/// How many entries are read at once. The cells of this many entries are compared at once.
 pub const PAGE: u64 = 16;
 
-/// Compares all cells with those of a register. Says the first that differs.
+/// Compares all cells with those of a register. Returns the first that differs.
 pub fn compare_cells<K: Keeper>(
     alloc: Global,
     keeper: &mut K,
@@ -40,7 +40,8 @@ pub fn compare_cells<K: Keeper>(
     Ok(None)
 }
 
-// The numbers of the entries whose cells are in a page: greater than the first and at most the second.
+// The bounds of a page: its cells were last touched by entries with numbers greater than the first bound and at most
+// the second.
 fn page_bounds(last: u64, page: u64) -> (u64, u64)
     requires { page ≤ 10_000_000 }
     ensures { result ≡ page_bounds last page }
@@ -74,7 +75,7 @@ fn compare_page<K: Keeper>(
     Ok(first_difference(alloc, kept.as_slice(), made.as_slice())?)
 }
 
-// The first place at which two lists of cells differ.
+// The difference at the first place at which two lists of cells differ.
 fn first_difference(
     alloc: Global,
     kept: &[KeptCell],
@@ -101,7 +102,7 @@ fn cell_at(cells: &[KeptCell], place: usize) -> Option<&KeptCell>
     cells.get(place)
 }
 
-// Whether the other cell is there, and is the same.
+// Whether there is another cell, and whether it is the same.
 fn is_same(cell: &KeptCell, other: &Option<&KeptCell>) -> bool
     ensures same { IsTrue result → option_map (λ cell. cell.now) other.now ≡ Some cell.now }
     ensures apart { option_map (λ cell. cell.now) other.now ≡ Some cell.now → IsTrue result }
@@ -112,7 +113,7 @@ fn is_same(cell: &KeptCell, other: &Option<&KeptCell>) -> bool
     }
 }
 
-// A cell that is kept and isn't the one of the register that stands in its place, if one does.
+// The difference of a kept cell from the register's cell at the same place, if the register has one there.
 fn not_made(alloc: Global, kept: &KeptCell, made: &Option<&KeptCell>) -> Result<Damage, NoMemory>
     ensures { IfOk result (λ damage. damage ≡ not_made kept.now (option_map (λ cell. cell.now) made.now)) }
 {
@@ -123,7 +124,7 @@ fn not_made(alloc: Global, kept: &KeptCell, made: &Option<&KeptCell>) -> Result<
     })
 }
 
-// A cell in its line, and `none` for none.
+// A cell in one line, or `none` if there is no cell.
 fn cell_or_none(alloc: Global, cell: &Option<&KeptCell>) -> Result<Bytes, NoMemory>
     ensures { IfOk result (λ line. line ≡ cell_or_none (option_map (λ cell. cell.now) cell.now)) }
 {
@@ -133,7 +134,7 @@ fn cell_or_none(alloc: Global, cell: &Option<&KeptCell>) -> Result<Bytes, NoMemo
     }
 }
 
-// A cell of the register that isn't kept.
+// The difference of a cell of the register that isn't kept.
 fn not_kept(alloc: Global, made: &KeptCell) -> Result<Damage, NoMemory>
     ensures { IfOk result (λ damage. damage ≡ not_kept made.now) }
 {

@@ -1,4 +1,4 @@
-//! How the first difference between what a keeper has and what its entries come to is told.
+//! Lines that report the first difference between what a keeper has and what its entries leave.
 ghost use Rattle.std.specs.Prelude.{◌≡◌, ◌++◌, ◌∷◌, IfOk, OnOk, flat_map, map};
 ghost use Rattle.register_history.specs.Damage.{cell_line, entry_line, kind_word, moment_word, or_dash, row_word};
 ghost use Rattle.register_history.specs.Kept.{joined};
@@ -43,7 +43,7 @@ pub fn cell_line(alloc: Global, cell: &KeptCell) -> Result<Bytes, NoMemory>
     joined(alloc, &words)
 }
 
-// A kind by its word, and one that has none by its number.
+// A kind as its word, or as its number if it has no word.
 fn kind_word(kind: u8, buffer: &mut itoa::Buffer) -> &str
     ensures { result.now ≡ kind_word kind }
 {
@@ -55,7 +55,7 @@ fn kind_word(kind: u8, buffer: &mut itoa::Buffer) -> &str
     }
 }
 
-// A text, and `-` for an empty one.
+// The text, or `-` if it is empty.
 fn or_dash(text: &[u8]) -> &[u8]
     ensures { result.now ≡ or_dash text.now }
 {
@@ -75,7 +75,7 @@ fn moment_word(alloc: Global, seconds: i64) -> Result<Bytes, NoMemory>
     }
 }
 
-// The text of a row, and `-` for none.
+// The text of a row, or `-` if there is none.
 fn row_word(row: &Option<Shared>) -> &[u8]
     ensures { result.now ≡ row_word row.now }
 {
@@ -85,7 +85,7 @@ fn row_word(row: &Option<Shared>) -> &[u8]
     }
 }
 
-// Words with a space between two of them.
+// Words, separated by single spaces.
 #[tactic(auto, using(crate::proofs::Lines::joined_behind))]
 fn joined(alloc: Global, words: &[&[u8]]) -> Result<Bytes, NoMemory>
     ensures { IfOk result (λ text. text ≡ joined (map (λ word. word.now) words.now)) }
@@ -96,7 +96,7 @@ fn joined(alloc: Global, words: &[&[u8]]) -> Result<Bytes, NoMemory>
     }
 }
 
-// A text with words behind it, each behind a space.
+// A text followed by words, each after a space.
 fn with_behind(alloc: Global, first: &[u8], others: &[&[u8]]) -> Result<Bytes, NoMemory>
     ensures { IfOk result (λ text. text ≡ first.now ++ flat_map (λ word. 32 ∷ word.now) others.now) }
 {
@@ -105,7 +105,7 @@ fn with_behind(alloc: Global, first: &[u8], others: &[&[u8]]) -> Result<Bytes, N
     Ok(Bytes::from(text))
 }
 
-// Puts words behind a text, each behind a space.
+// Appends words to a text, each after a space.
 fn put_behind(text: &mut Vec<u8>, words: &[&[u8]]) -> Result<(), NoMemory>
     ensures { OnOk result (text.new.items ≡ text.old.items ++ flat_map (λ word. 32 ∷ word.now) words.now) }
 {

@@ -1,4 +1,4 @@
-//! The office of the register: what it answers to requests, and how it is opened over what a keeper has.
+//! The office of the register: how it answers requests, and how it is opened over what a keeper has.
 #![tactic(auto)]
 
 mod answering;

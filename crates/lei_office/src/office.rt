@@ -1,4 +1,4 @@
-//! One caller's register.
+//! An office: a register that serves one caller at a time, with its keeper.
 ghost use Rattle.std.specs.Prelude.{◌≡◌, ◌≤◌, Some, take, IfErr, IfOk, IfSome, option_map};
 ghost use Rattle.lei_shapes.specs.Moment.{IsMoment};
 ghost use Rattle.lei_outside.specs.Count.{Rose};
@@ -36,8 +36,8 @@ use std::alloc::Global;
 use std::marker::Model;
 use std::thread::Threads;
 
-/// The register of one caller at a time, over a keeper of what it takes. Contracts see it as its limits with its
-/// history, the list of the entries that it took, and beside them the keeper.
+/// A register that serves one caller at a time, with a keeper of what it takes. Contracts see it as its keeper and its
+/// limits with its history, the list of the entries that it took.
 #[derive(Drop)]
 pub struct Office<K: Keeper> {
     register: Register,
@@ -57,9 +57,9 @@ impl<K: Keeper> Model for Office<K> {
 }
 
 impl<K: Keeper> Office<K> {
-    /// The office of what a keeper has kept, which has to be what a history leaves under these limits. The entries are
-    /// read and replayed, and then the cells compared, in pages of 16 entries. Where it can't be opened, the keeper
-    /// comes back.
+    /// Opens an office over what a keeper has kept, which has to be what a history leaves under these limits. The
+    /// entries are read and replayed, and then the cells are compared, in pages of 16 entries. If the office can't be
+    /// opened, the error returns the keeper.
     pub fn open<R: Threads + Sync>(
         rt: &R,
         alloc: Global,
@@ -97,7 +97,7 @@ impl<K: Keeper> Office<K> {
         }
     }
 
-    /// What it takes at most. No call changes that.
+    /// The limits on what it takes. No call changes them.
     pub fn limits(&self) -> Limits
         ensures value { result ≡ self.now.office.limits }
         ensures limits { AreLimits result }
@@ -107,7 +107,7 @@ impl<K: Keeper> Office<K> {
         self.register.limits()
     }
 
-    /// The moment of its last entry.
+    /// The moment of its last entry, if it has one.
     pub fn last_moment(&self) -> Option<Moment>
         ensures { result ≡ option_map (λ e. e.moment) (last_entry self.now.office.history) }
     {
@@ -115,7 +115,7 @@ impl<K: Keeper> Office<K> {
         moment_of(entry)
     }
 
-    /// The keeper, which comes back with all that was taken.
+    /// Returns the keeper, with all that was taken.
     pub fn close(self) -> K
         ensures keeper { result ≡ self.keeper }
         ensures kept { Keeps (K.tables result) self.office }
@@ -124,8 +124,8 @@ impl<K: Keeper> Office<K> {
         self.keeper
     }
 
-    /// Answers a request that came at this moment, by one step of the history. An entry that is added has the
-    /// moment, or that of the last entry where it is later, and is kept before it is answered. A repeat of an upload
+    /// Answers a request that came at this moment, by one step of the history. An entry that is added has this moment,
+    /// or that of the last entry if that is later, and is kept before the request is answered. A repeat of an upload
     /// gets the answer that was kept.
     pub fn answer<R: Threads + Sync>(&mut self, rt: &R, request: &Request, moment: Moment) -> Reply
         requires { IsNumbered request.now }
@@ -152,10 +152,10 @@ impl<K: Keeper> Office<K> {
         reply_or(self.register.answer(rt, &mut self.keeper, request, moment))
     }
 
-    /// The cells of these keys and, for each record among them, those of the first 201 different LEIs of its levels of
-    /// successors, level by level and in byte order within a level, and of the direct parents from it on, to 200
-    /// members. Of them all, the first 50,000 are fetched, and one that comes twice counts twice. This project's
-    /// profile.
+    /// The cells of these keys and, for each record among them, those of two walks. The first visits the first 201
+    /// different LEIs of its levels of successors, level by level and in byte order within a level. The second visits
+    /// the direct parents from the record on, up to 200 members. Of all these cells the first 50,000 are
+    /// fetched, and one that comes twice counts twice. This project's profile.
     pub fn fetch(&self, keys: &[CellKey]) -> Result<Fetched, NoMemory>
         ensures cells { IfOk result (λ fetched. HasJust (cells_in fetched)
             (cells_of (after self.now.office.limits self.now.office.history)) (take 50_000
@@ -165,9 +165,9 @@ impl<K: Keeper> Office<K> {
         self.register.fetch(keys)
     }
 
-    /// Answers an upload that came at this moment, as `answer` does its request, whether there is a plan of it or none,
-    /// and whether that is stale. A plan is used if it is of the day, if the register agrees with what it has read, and
-    /// if its new records fit. The upload is lent, and nothing of it is copied but what is kept.
+    /// Answers an upload that came at this moment, as `answer` answers the same request. There may be a plan of it,
+    /// which may be stale. A plan is used if it is for this day, if the register agrees with what it has read, and if
+    /// its new records fit. The upload is borrowed, and nothing of it is copied except what is kept.
     pub fn settle<R: Threads + Sync>(
         &mut self,
         rt: &R,
@@ -197,14 +197,14 @@ impl<K: Keeper> Office<K> {
     }
 }
 
-// The moment of an entry, which lies in the range of moments.
+// The moment of an entry, if it is in the range of moments.
 fn moment_of(entry: &KeptEntry) -> Option<Moment>
     ensures { IsMoment entry.now.moment → result ≡ Some entry.now.moment }
 {
     Moment::of(entry.moment)
 }
 
-// The reply, or why there is none.
+// The reply, or the refusal that says why there is none.
 fn reply_or(answered: Result<Reply, KeepFault>) -> Reply
     ensures { result ≡ reply_or answered }
 {

@@ -1,4 +1,4 @@
-//! A store is opened: its entries are replayed, and its cells are compared with those that they leave.
+//! Opens a store: its entries are replayed, and its cells are compared with those that the entries leave.
 ghost use Rattle.std.specs.Prelude.{◌≡◌, ◌≤◌, ◌<◌, ◌+◌, [], IfOk, IfSome, IsErrOf, min};
 ghost use Rattle.lei_outside.specs.Count.{Rose};
 ghost use Rattle.lei_outside.specs.Keeping.{AreKept, LeavesNoMore, Stays, last_number};
@@ -14,14 +14,14 @@ use register_words::Limits;
 use std::alloc::Global;
 use std::thread::Threads;
 
-/// Why an office can't be opened. The keeper comes back with its tables as they were.
+/// Why an office can't be opened. Each fault returns the keeper, with its tables as they were.
 #[derive(Drop)]
 pub enum OpenFault<K> {
     /// A call of the keeper failed.
     KeeperFault(K),
-    /// What the keeper has isn't what a history leaves under these limits; this is the first difference.
+    /// What the keeper has isn't what a history leaves under these limits. This is the first difference.
     StoreDamaged(K, Damage),
-    /// Memory was wanted.
+    /// Memory ran out.
     NoMemory(K),
 }
 
@@ -32,7 +32,7 @@ pub enum Found {
     Damaged(Damage),
 }
 
-/// Reads what a keeper has.
+/// Reads what a keeper has, by replaying its entries and comparing its cells.
 pub fn read_store<K: Keeper, R: Threads + Sync>(
     rt: &R,
     alloc: Global,
@@ -56,8 +56,8 @@ pub fn read_store<K: Keeper, R: Threads + Sync>(
     }
 }
 
-// Replays all stored entries, of which the last has this number, and compares the cells with those that they leave.
-// Says the first difference.
+// Replays all stored entries, the last of which has this number, and compares the cells with those that they leave.
+// Returns the first difference.
 fn replay_store<K: Keeper, R: Threads + Sync>(
     rt: &R,
     alloc: Global,
@@ -82,7 +82,7 @@ fn replay_store<K: Keeper, R: Threads + Sync>(
     compare_cells(alloc, keeper, register)
 }
 
-// Replays all stored entries, of which the last has this number, page by page.
+// Replays all stored entries, the last of which has this number, page by page.
 fn replay_entries<K: Keeper, R: Threads + Sync>(
     rt: &R,
     alloc: Global,
@@ -112,7 +112,7 @@ fn replay_entries<K: Keeper, R: Threads + Sync>(
     Ok(None)
 }
 
-// The last number of a page that begins behind a number.
+// The last number of a page that starts after a number.
 fn page_end(after: u64, last: u64) -> u64
     requires { after < last }
     ensures page { result ≡ min (after + 16) last }

@@ -1,4 +1,4 @@
-//! Stored entries are replayed: each is asked again as its own request, by its own rules and at its own moment.
+//! Replays stored entries: each is put again as its own request, by its own rules and at its own moment.
 ghost use Rattle.std.specs.Prelude.{◌≡◌, IfOk, IfSome, Some, option_map};
 ghost use Rattle.lei_shapes.specs.Moment.{IsMoment};
 ghost use Rattle.register_history.specs.Damage.{accreditation_in, asked_by, missing, publication_in, request_in, upload_in};
@@ -21,7 +21,7 @@ use upload_ledger::{ACCREDIT, PUBLISH, UPLOAD};
 // The number of the first rules.
 const FIRST_RULES: u16 = 1;
 
-/// Replays the stored entries of a page, which are to be those up to the number `upto`. Says the first that differs.
+/// Replays the stored entries of a page, which should be those up to the number `upto`. Returns the first that differs.
 pub fn replay_page<R: Threads + Sync>(
     rt: &R,
     alloc: Global,
@@ -55,7 +55,7 @@ pub fn replay_page<R: Threads + Sync>(
     Ok(None)
 }
 
-// No entry of this number is stored.
+// The difference if no entry of this number is stored.
 fn missing(alloc: Global, number: u64) -> Result<Damage, NoMemory>
     ensures { IfOk result (λ damage. damage ≡ missing number) }
 {
@@ -66,7 +66,8 @@ fn missing(alloc: Global, number: u64) -> Result<Damage, NoMemory>
     })
 }
 
-// Replays a stored entry. Where it is what the replay makes, it is added; else that is told.
+// Replays a stored entry. If the replay makes the same entry, it is added. Otherwise a text of what the replay makes is
+// returned.
 fn replay<R: Threads + Sync>(
     rt: &R,
     alloc: Global,
@@ -101,7 +102,7 @@ fn replay_request<R: Threads + Sync>(
     }
 }
 
-// What is told where this is decided in the place of a stored entry.
+// The text that reports what is decided instead of a stored entry.
 fn decision_text(alloc: Global, decision: Decision) -> Result<Bytes, NoMemory>
     ensures { IfOk result (λ text. text ≡ decision_text decision) }
 {
@@ -111,7 +112,7 @@ fn decision_text(alloc: Global, decision: Decision) -> Result<Bytes, NoMemory>
     }
 }
 
-// What is told in a reply.
+// The text of a reply, or the words of a refusal.
 fn reply_words(alloc: Global, reply: Reply) -> Result<Bytes, NoMemory>
     ensures { IfOk result (λ text. text ≡ reply_words reply) }
 {
@@ -124,8 +125,8 @@ fn reply_words(alloc: Global, reply: Reply) -> Result<Bytes, NoMemory>
     }
 }
 
-// The request that a stored entry was taken for, with its moment. None where its values are those of no request, its
-// moment isn't one, or its rules may not follow those of the entries before it.
+// The request that a stored entry was taken for, with its moment. There is none if no request has the entry's values,
+// if its moment is out of range, or if its rules may not follow those of earlier entries.
 #[tactic(auto, unfolding(register_history::specs::Damage::asked_by))]
 fn asked_by(
     alloc: Global,
@@ -149,7 +150,7 @@ fn asked_by(
     }
 }
 
-// Whether an entry after these may have the rules of this number: there are such, and they aren't lower than those of
+// Whether an entry after these may have the rules of this number: such rules exist, and they aren't lower than those of
 // the last entry.
 fn may_follow(before: &[KeptEntry], rules: u16) -> bool
     ensures { result ≡ may_follow before.now rules }
@@ -161,7 +162,7 @@ fn may_follow(before: &[KeptEntry], rules: u16) -> bool
     FIRST_RULES <= rules && rules <= RULES && last <= rules
 }
 
-// The request that an entry of its kind was taken for.
+// The request that an entry was taken for, by the entry's kind.
 fn request_in(alloc: Global, stored: &KeptEntry) -> Result<Option<Request>, NoMemory>
     ensures request { IfOk result (λ request. request ≡ request_in stored.now) }
     ensures numbered { IfOk result (λ request. IfSome request IsNumbered) }
@@ -174,7 +175,7 @@ fn request_in(alloc: Global, stored: &KeptEntry) -> Result<Option<Request>, NoMe
     }
 }
 
-// The accreditation that an entry is one of: it has neither a number nor a body.
+// The accreditation that an entry was taken for. Its entry has neither a number nor a body.
 fn accreditation_in(stored: &KeptEntry) -> Option<Request>
     ensures request { result ≡ accreditation_in stored.now }
     ensures numbered { IfSome result IsNumbered }
@@ -187,7 +188,7 @@ fn accreditation_in(stored: &KeptEntry) -> Option<Request>
     }
 }
 
-// The upload that an entry is one of.
+// The upload that an entry was taken for.
 fn upload_in(alloc: Global, stored: &KeptEntry) -> Result<Option<Request>, NoMemory>
     ensures request { IfOk result (λ request. request ≡ upload_in stored.now) }
     ensures numbered { IfOk result (λ request. IfSome request IsNumbered) }
@@ -205,7 +206,7 @@ fn upload_in(alloc: Global, stored: &KeptEntry) -> Result<Option<Request>, NoMem
     }
 }
 
-// The publication that an entry is one of: it has neither an office nor a body.
+// The publication that an entry was taken for. Its entry has neither an office nor a body.
 fn publication_in(stored: &KeptEntry) -> Option<Request>
     ensures request { result ≡ publication_in stored.now }
     ensures numbered { IfSome result IsNumbered }

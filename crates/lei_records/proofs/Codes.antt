@@ -1,4 +1,4 @@
--- A text of a code's shape is a code where its check digits are right.
+-- A text with the shape of an LEI is an LEI if its check digits are right.
 use Rattle.std.proofs.Common.{◌≡◌, ℕ, ◌+◌, ◌-◌, ◌%◌, ◌<◌, ◌≤◌, inl, inr, Bool, true, false, not, ◌&&◌, List, take, drop, length, get_or, refl, sym, ap, ◌∙◌, arith}
 use Rattle.std.specs.Char.{is_ascii_digit}
 use Rattle.std.specs.List.{list_all}
@@ -11,7 +11,7 @@ use Rattle.lei_code.specs.Number.{number}
 use Rattle.lei_code.specs.Code.{character, may_stand, IsWellFormed, IsValid}
 use Rattle.lei_shapes.specs.Shape.{is_code, is_capital_or_digit}
 
--- what all pass, the one at an index passes
+-- if all pass, the one at an index passes
 pub passes_at : {X : Type 0} (p : X → Bool) (xs : List X) (i : ℕ) (d : X) → list_all p xs ≡ true → i < length xs → p (get_or xs i d) ≡ true
 passes_at p xs i d all within =
     elim (p (get_or xs i d)) as (λ b. p (get_or xs i d) ≡ b → b ≡ true) [
@@ -56,7 +56,7 @@ IsValid-from_shape text shape check = record {
   check = eqb-true (number text % 97) 1 check;
 }
 
--- what the reader of codes says of check digits, where the shape is right
+-- what reading an LEI says about the check digits, if the shape is right
 pub remainder_told : {A E : Type 0} (r : Result A E) (text : List ℕ) → is_code text ≡ true → (IsOk r → IsValid text) → (IsValid text → IsOk r) → is_err r ≡ is_code text && not (number text % 97 == 1)
 remainder_told (Ok a) text shape valid back = rw (shape, ap (λ n. n == 1) (valid refl).check) refl
 remainder_told (Err e) text shape valid back =

@@ -1,5 +1,5 @@
--- The texts of a row by the ends of as many of them as it has: how many they are, one more, and whether they
--- are those of another row.
+-- The texts of a row by the ends of as many of them as it has: their number, one more, and whether they are those of
+-- another row.
 use Rattle.std.proofs.Common.{◌≡◌, ◌==◌, ◌&&◌, ℕ, ◌+◌, ◌<◌, ◌≤◌, List, [], ◌∷◌, ◌++◌, length, take, set, refl, sym, ap, ◌∙◌, arith}
 use Rattle.std.specs.Cmp.Lexicographic.{pointwise}
 use Rattle.std.specs.Str.{IsUtf8}
@@ -10,7 +10,7 @@ use Rattle.lei_outside.proofs.PieceLemmas.{ends_grow, length_pieces, pieces_grow
 use Rattle.lei_records.specs.Places.{record_places}
 use Rattle.lei_records.specs.Rows.{Row}
 
--- as many texts as ends are looked at
+-- there are as many texts as ends that are used
 pub length_seen : (count : ℕ) (ends bytes : List ℕ) (seen : Row) → count ≤ length ends → pieces 0 (take count ends) bytes ≡ seen
     → length seen ≡ count
 length_seen count ends bytes seen few is =
@@ -27,7 +27,7 @@ has_end count ends ends' bytes seen index is same within =
     let counted : length (take count ends) ≡ length seen = sym (length_pieces 0 (take count ends) bytes) ∙ ap length is in
     omega (arith, within, counted, ap length same)
 
--- the ends with one more behind them
+-- the ends with one more after them
 ends_with : (count : ℕ) (ends : List ℕ) (end end' : ℕ) → count < length ends → end ≡ end' → take (count + 1) (set ends count end) ≡ take count ends ++ end' ∷ []
 ends_with count ends end end' room same = take-set_at ends count (count + 1) end refl room ∙ ap (λ e. take count ends ++ e ∷ []) same
 
@@ -43,7 +43,7 @@ seen_more count ends bytes text bytes' end seen are room grown is same =
     pieces_grow (take count ends) bytes text _ bytes' are grown (ends_with count ends end (length bytes') room is)
     ∙ ap (λ texts. texts ++ text ∷ []) same
 
--- texts are the same where the ends that are looked at are and the piece of memory is
+-- texts are the same if and only if the ends that are used and the piece of memory are
 pub seen_compare : (count count' : ℕ) (ends ends' bytes bytes' front front' : List ℕ) (xs ys : Row)
     → AreEnds 0 (take count ends) bytes → AreEnds 0 (take count' ends') bytes'
     → pieces 0 (take count ends) bytes ≡ xs → pieces 0 (take count' ends') bytes' ≡ ys → front ≡ take count ends → front' ≡ take count' ends'

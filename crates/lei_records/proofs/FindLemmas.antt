@@ -1,4 +1,4 @@
--- Searches in lists: what is found passes and is a member, and nothing is found where nothing passes.
+-- Searches in lists: what is found passes and is a member, and nothing is found if nothing passes.
 use Rattle.std.specs.Prelude.{◌≡◌, Bool, List, [], ◌∷◌, true, false, cond, find, Some, None}
 use Rattle.std.specs.List.{Contains}
 use Rattle.std.proofs.Common.{refl, sym, ap, ◌∙◌, arith}

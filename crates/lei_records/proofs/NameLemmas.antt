@@ -35,7 +35,7 @@ lesser-first own None below = refl
 lesser-first own (Some m) below =
     ap (λ r. cond (is_lt r) m own) (nat_list_cmp_total.antisymm m own ∙ ap ordering_reverse below)
 
--- of names that rise, the first that passes is the least that does
+-- if names rise, the first that passes is the least that does
 pub least-first : (p : List ℕ → Bool) (ns : List (List ℕ)) → IsStrictlySortedBy (slice_cmp nat_cmp) ns → least (filter p ns) ≡ find p ns
 unfolding IsStrictlySortedBy
 least-first p [] rising = refl
@@ -45,7 +45,7 @@ least-first p (n ∷ ns) rising =
       | false ↦ least-first p ns rising.1
     ]
 
--- where there is no least of them, there is no first
+-- if there is no least of them, there is no first
 pub none_first_of : (p : List ℕ → Bool) (ns : List (List ℕ)) → least (filter p ns) ≡ None → find p ns ≡ None
 none_first_of p [] none = refl
 none_first_of p (n ∷ ns) none =

@@ -1,4 +1,4 @@
--- What may be there or not.
+-- Values that may be absent.
 use Rattle.std.specs.Prelude.{◌≡◌, Bool, true, false, ◌&&◌, cond, Option, Some, None, is_some, option_map}
 use Rattle.std.proofs.Common.{refl}
 use Rattle.std.proofs.lemmas.Bool.{both_ways}
@@ -15,7 +15,7 @@ pub none_there : {A : Type 0} (o : Option A) → is_some o ≡ false → o ≡ N
 none_there None is = refl
 none_there (Some x) is = absurd (both_ways true is refl)
 
--- where it is asked for and isn't there
+-- if a value is asked for, and isn't there, it is absent
 pub none_where : {A : Type 0} (asked : Bool) (o : Option A) → (asked && is_some o) ≡ false → asked ≡ true → o ≡ None
 none_where true o both is = none_there o both
 none_where false o both is = absurd (both_ways false refl is)

@@ -1,16 +1,16 @@
--- Texts two by two.
+-- Texts in pairs.
 use Rattle.std.proofs.Common.{◌≡◌, ℕ, zero, suc, ◌+◌, ◌*◌, ◌<◌, List, [], ◌∷◌, ◌++◌, length, refl, sym, ap, ◌∙◌, arith}
 use Rattle.std.specs.Prelude.{get_or}
 use Rattle.std.proofs.lemmas.List.{get_or_default}
 use Rattle.std.specs.List.Sorted.{IsStrictlySortedBy}
 use Rattle.lei_records.specs.Names.{AreRising, ArePaired, paired}
 
--- no text is no pair
+-- without texts there are no pairs
 pub none_paired : (texts : List (List ℕ)) → texts ≡ [] → ArePaired texts
 unfolding IsStrictlySortedBy
 none_paired texts none = rw none (record { even = refl; rising = tt })
 
--- as many texts as twice the pairs
+-- there are twice as many texts as pairs
 pub pairs_count : (texts : List (List ℕ)) (pairs : List (List ℕ × List ℕ)) → ArePaired texts → paired texts ≡ pairs
     → length pairs + length pairs ≡ length texts
 pairs_count texts pairs are is = rw (sym is) are.even
@@ -41,7 +41,7 @@ length_one (y ∷ ys) x = ap suc (length_one ys x)
 length_two : {X : Type 0} (xs : List X) (x y : X) → length ((xs ++ x ∷ []) ++ y ∷ []) ≡ suc (suc (length xs))
 length_two xs x y = length_one (xs ++ x ∷ []) y ∙ ap suc (length_one xs x)
 
--- a name and a text that stand at an index are its pair
+-- a name and a text at an index are its pair
 pub pair_at : (pairs : List (List ℕ × List ℕ)) (i : ℕ) (name text : List ℕ) → i < length pairs
     → name ≡ (get_or pairs i ([], [])).0 → text ≡ (get_or pairs i ([], [])).1 → (name, text) ≡ get_or pairs i (name, text)
 pair_at pairs i name text within first second =

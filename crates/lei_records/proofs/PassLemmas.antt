@@ -1,4 +1,4 @@
--- Checks one after the other: the first that fails of two lists, and what it says of each that none does.
+-- Checks one after another: the first of two lists that fails, and that each passes if none fails.
 use Rattle.std.specs.Prelude.{◌≡◌, List, [], ◌∷◌, ◌++◌, true, false, cond, Some, None, ⊤}
 use Rattle.std.specs.Option.{option_or}
 use Rattle.std.proofs.Common.{refl}
@@ -13,7 +13,7 @@ first_failing-append (finding ∷ before) behind =
       | false ↦ first_failing-append before behind
     ]
 
--- The first of some checks passes, and the others do.
+-- The first of some checks passes, and so do the others.
 pub record AllOf (first_finding : Finding) (rest : Type 0) : Type 0 where
   pub first : first_finding.fails ≡ false
   pub others : rest
@@ -31,7 +31,7 @@ all_pass (finding ∷ findings) passes =
       | false ↦ λ t is. record { first = t; others = all_pass findings is }
     ] refl passes
 
--- where all pass, those behind the first ones do
+-- if all pass, those after the first ones do
 pub pass_behind : (first behind : List Finding) → AllPass (first ++ behind) → AllPass behind
 pass_behind [] behind pass = pass
 pass_behind (finding ∷ first) behind pass = pass_behind first behind pass.others

@@ -1,4 +1,4 @@
--- Moments that were read while a row was put together.
+-- Moments that were read while a row was built.
 use Rattle.std.proofs.Common.{◌≡◌, ℕ, ℤ, ◌+◌, ◌-◌, ◌<◌, ◌≤◌, nat_lt, zero, suc, List, [], ◌∷◌, ◌++◌, Bool, true, false, Bor, drop, length, take, get_or, Option, None, Some, refl, sym, ap, subst, ◌∙◌, arith}
 use Rattle.std.specs.Prelude.{◌==◌, IfSome, if◌then◌else◌}
 use Rattle.std.proofs.lemmas.Bool.Decides.{nat_tests}
@@ -29,7 +29,7 @@ text_at-inside row place first =
     let other : (place == 0) ≡ false = grind (arith, nat_tests) in
     rw other refl
 
--- what stands beside the text of a place is what that text reads as
+-- the moment that is kept for a place is what the text there reads as
 pub read_at-place : (row : Row) (seen : Row) (moments : List (Option ℤ)) (place : ℕ) (d : Option ℤ) → seen ≡ row → AreRead row moments → 1 ≤ place → place ≤ length seen → place - 1 < length moments
     → IfSome (get_or moments (place - 1) d) (λ moment. read_moment (text_at seen place) ≡ Some moment)
 read_at-place row seen moments place d same read first last within =
@@ -46,7 +46,7 @@ row_len-small Kind.Record = omega arith
 row_len-small Kind.Relation = omega arith
 row_len-small Kind.Exception = omega arith
 
--- a text that stands in a row finds its place
+-- there is room for a text that is in a row
 pub row_room : (kind : Kind) (n i size : ℕ) → n ≡ row_len kind → size ≤ i → nat_lt i n ≡ true → size < record_places
 row_room kind n i size is short test =
     let below : i < n = grind (arith, nat_tests) in

@@ -1,4 +1,4 @@
--- The checks of an item by its texts in order of place, and the row that it has where they pass.
+-- The checks of an item by its texts in order of place, and the row that it has if they pass.
 use Rattle.std.proofs.Common.{◌≡◌, ℕ, ℤ, ◌<◌, ◌≤◌, ◌%◌, zero, suc, List, [], ◌∷◌, Bool, true, false, not, ◌&&◌, cond, length, get_or, map, take, min, Option, None, Some, unwrap_or, refl, sym, ap, subst, ◌∙◌, arith, lit<}
 use Rattle.std.specs.Prelude.{◌==◌, codes, IfSome, is_some, IfOk, Result, Ok, Err}
 use Rattle.std.proofs.lemmas.Bool.{false≢true, or_parts}
@@ -46,7 +46,7 @@ zip-self : {X Y : Type 0} (g : X → Y) (xs : List X) → zip xs (map g xs) ≡ 
 zip-self g [] = refl
 zip-self g (x ∷ xs) = ap (λ l. (x, g x) ∷ l) (zip-self g xs)
 
--- of a list that is shorter
+-- the same for a prefix of the list
 zip-front : {X Y : Type 0} (g : X → Y) (n : ℕ) (xs : List X) → zip (take n xs) (map g xs) ≡ map (λ x. (x, g x)) (take n xs)
 zip-front g zero xs = refl
 zip-front g (suc n) [] = refl
@@ -59,11 +59,11 @@ none_first false x rest none = (refl, none)
 none_unknown : (rules : Rules) (kind : Kind) (pairs : List (List ℕ × List ℕ)) → unknown_name rules kind pairs ≡ None → first_unknown rules kind pairs ≡ None
 none_unknown rules kind pairs known = none_first_of (λ name. not (is_field rules kind name)) (names pairs) known
 
--- where names rise, the first that is no field's is the least
+-- if names rise, the first that isn't a field's is the least
 pub unknown_name-first : (rules : Rules) (kind : Kind) (pairs : List (List ℕ × List ℕ)) → AreRising pairs → unknown_name rules kind pairs ≡ first_unknown rules kind pairs
 unknown_name-first rules kind pairs rising = least-first (λ name. not (is_field rules kind name)) (names pairs) rising
 
--- an item that has no unknown name has no text under one
+-- an item without an unknown name has no text under one
 not_sent : (rules : Rules) (kind : Kind) (name : List ℕ) (pairs : List (List ℕ × List ℕ)) → is_field rules kind name ≡ false → first_unknown rules kind pairs ≡ None → text_of pairs name ≡ []
 not_sent rules kind name [] unknown known = refl
 not_sent rules kind name (p ∷ pairs) unknown known =
@@ -167,7 +167,7 @@ length-row_fields Kind.Exception = refl
 entry_at : (kind : Kind) (texts : Row) → length texts ≡ field_count kind → (k : ℕ) → k < field_count kind → get_or (zip (fields_of kind) texts) k (blank, []) ≡ (field_at kind k, sent texts k)
 entry_at kind texts len k bound = get_or-zip (fields_of kind) texts k (blank, []) (rw (length-fields_of kind) bound) (rw len bound)
 
--- the same of the fields that stand in a row
+-- the same for the fields that are in a row
 row_entry_at : (kind : Kind) (texts : Row) → length texts ≡ field_count kind → (k : ℕ) → k < row_len kind → get_or (zip (row_fields kind) texts) k (blank, []) ≡ (field_at kind k, sent texts k)
 row_entry_at kind texts len k bound =
     get_or-zip (row_fields kind) texts k (blank, []) (rw (length-row_fields kind) bound) (rw len (row-within kind k bound))
@@ -179,7 +179,7 @@ within_entries (f ∷ fs) [] k first second = absurd (omega (arith, second))
 within_entries (f ∷ fs) (t ∷ texts) zero first second = omega arith
 within_entries (f ∷ fs) (t ∷ texts) (suc k) first second = let rest = within_entries fs texts k (omega (arith, first)) (omega (arith, second)) in omega (arith, rest)
 
--- what a check that finds no field says of each
+-- what a check that finds no field says about each
 asked_at : (rules : Rules) (check : FieldCheck) (kind : Kind) (texts : Row) → length texts ≡ field_count kind → first_at rules check kind texts ≡ None → (k : ℕ) → k < field_count kind
     → field_fails check (facts_at rules kind texts) (field_at kind k) (sent texts k) ≡ false
 unfolding first_at
@@ -196,7 +196,7 @@ row_at kind texts len k bound =
     get_or-map make (zip (row_fields kind) texts) k (blank, []) [] (within_entries (row_fields kind) texts k (rw (length-row_fields kind) bound) (rw len (row-within kind k bound)))
     ∙ ap make (row_entry_at kind texts len k bound)
 
--- what the texts at the places of a kind of item have passed
+-- the checks that the texts at the places of a kind of item have passed
 record Passed (rules : Rules) (kind : Kind) (texts : Row) : Type 0 where
   len : length texts ≡ field_count kind
   presence : (k : ℕ) → k < field_count kind → field_fails FieldCheck.Presence (facts_at rules kind texts) (field_at kind k) (sent texts k) ≡ false
@@ -238,7 +238,7 @@ printed_moment text form None told fits is = cc
 printed_moment text form (Some s) told fits is =
     (s, ap read_moment is ∙ read_moment-text s (is_moment-read text s told), is)
 
--- a moment that stands, in printed form
+-- a moment that is present, in printed form
 moment_stands : (text : List ℕ) (may : Bool) → is_absent text ≡ false → not (is_absent text) && not (is_some (read_moment text) && may) ≡ false → IsPrinted (printed Shape.Moment text)
 moment_stands text may stands shape =
     printed_moment text (printed Shape.Moment text) (read_moment text) refl (fit (is_absent text) (is_some (read_moment text)) may stands shape)
@@ -297,7 +297,7 @@ moment_if_present kind texts passed k bound is =
     if_present IsPrinted (get_or (printed_at kind texts) k [])
     (λ stands. moment_at kind texts passed k bound is (absent_stays (sent texts k) (ap is_absent (sym (same_at kind texts passed k bound Shape.Moment is)) ∙ stands)))
 
--- what a field that is always needed is
+-- a field that is always needed has a text of its shape
 always_code : {rules : Rules} (kind : Kind) (texts : Row) → Passed rules kind texts → (k : ℕ) → k < row_len kind → (field_at kind k).1 ≡ Content.Shaped Shape.Code → (field_at kind k).2 ≡ Need.Always → IsValid (get_or (printed_at kind texts) k [])
 always_code kind texts passed k bound is needed = code_at kind texts passed k bound is (stands_at kind texts passed k bound needed)
 
@@ -307,7 +307,7 @@ always_moment kind texts passed k bound is needed = moment_at kind texts passed 
 always_fits : {rules : Rules} (kind : Kind) (texts : Row) → Passed rules kind texts → (k : ℕ) → k < row_len kind → (shape : Shape) → (field_at kind k).1 ≡ Content.Shaped shape → (field_at kind k).2 ≡ Need.Always → fits_shape shape (sent texts k) ≡ true
 always_fits kind texts passed k bound shape is needed = fits_at kind texts passed k bound shape is (stands_at kind texts passed k bound needed)
 
--- a value of a list, where it is present
+-- a value of a list, if it is present
 listed_if_present : {rules : Rules} {V : Type 0} (kind : Kind) (texts : Row) → Passed rules kind texts → (k : ℕ) → k < row_len kind → (shape : Shape) (value_of : List ℕ → Option V)
     → (field_at kind k).1 ≡ Content.Shaped shape → ((text : List ℕ) → printed shape text ≡ text) → ((text : List ℕ) → fits_shape shape text ≡ true → IsListed value_of text)
     → IfSome (present (get_or (printed_at kind texts) k [])) (IsListed value_of)
@@ -327,7 +327,7 @@ length-printed_at kind texts len =
     length-map (zip (row_fields kind) texts) (λ entry. row_text entry.0.1 entry.1)
     ∙ (length-zip (row_fields kind) texts ∙ rw (length-row_fields kind, len) (least kind))
 
--- what is named as successors, where something is
+-- the successors that are named, if there are any
 successors_if_present : {rules : Rules} (texts : Row) → Passed rules Kind.Record texts → IfSome (present (get_or (printed_at Kind.Record texts) 20 [])) AreCodes
 unfolding fields
 successors_if_present {rules} texts passed =
@@ -397,7 +397,7 @@ rowed_as Kind.Record = rowed
 rowed_as Kind.Relation = relation_rowed
 rowed_as Kind.Exception = exception_rowed
 
--- what the checks by place say of texts that fail none of them
+-- texts that fail none of the checks by place have passed them
 passes : (rules : Rules) (kind : Kind) (texts : Row) → length texts ≡ field_count kind → first_at rules FieldCheck.Presence kind texts ≡ None → first_at rules FieldCheck.Shape kind texts ≡ None → first_at rules FieldCheck.Digits kind texts ≡ None
     → Passed rules kind texts
 passes rules kind texts len presence shape digits = record {
@@ -432,12 +432,12 @@ passed_of rules kind pairs is =
     passes rules kind (texts_of kind pairs) (length-texts_of kind pairs)
     (first_at-texts_of rules FieldCheck.Presence kind pairs first ∙ none.1) (first_at-texts_of rules FieldCheck.Shape kind pairs first ∙ none.2) (first_at-texts_of rules FieldCheck.Digits kind pairs first ∙ none.3)
 
--- it has the row of an item of its kind
+-- an item that passes its checks has the row of an item of its kind
 pub IsRowOf-row_of : (rules : Rules) (kind : Kind) (pairs : List (List ℕ × List ℕ)) → failed_check rules kind pairs ≡ None → IsRowOf kind (row_of kind pairs)
 IsRowOf-row_of rules kind pairs is =
     subst (IsRowOf kind) (printed_at-texts_of kind pairs) (rowed_as kind (texts_of kind pairs) (passed_of rules kind pairs is))
 
--- by the first rules it names at most one successor
+-- a record that passes its checks by the first rules names at most one successor
 pub one_named : (pairs : List (List ℕ × List ℕ)) → failed_check Rules.First Kind.Record pairs ≡ None → length (successors_in (row_of Kind.Record pairs)) ≤ 1
 unfolding fields successors_in
 one_named pairs is =
@@ -455,7 +455,7 @@ one_named pairs is =
           (omega arith)
     ] refl)
 
--- by rules that don't know the fields of an event it tells of none
+-- a record that passes its checks by rules without the fields of an event has none of them
 pub no_event : (rules : Rules)
     → is_field rules Kind.Record (codes "Entity.Event.1.Type") ≡ false → is_field rules Kind.Record (codes "Entity.Event.1.EffectiveDate") ≡ false
     → is_field rules Kind.Record (codes "Entity.Event.1.RecordedDate") ≡ false → is_field rules Kind.Record (codes "Entity.Event.1.Status") ≡ false
@@ -484,7 +484,7 @@ readied_same rules kind pairs None known =
     ∙ ap (λ withdraws. Readied.Good (item_of kind withdraws (row_of kind pairs))) (withdraws_at-texts_of rules kind pairs known)
 readied_same rules kind pairs (Some check) known = refl
 
--- what the checks by place answer is what the item's checks do
+-- the checks by place have the same result as the item's checks
 pub readied-by_place : {E : Type 0} (rules : Rules) (kind : Kind) (pairs : List (List ℕ × List ℕ)) (texts : Row) (r : Result Readied E) → unknown_name rules kind pairs ≡ None → texts ≡ texts_of kind pairs
     → IfOk r (λ item. item ≡ readied_by kind texts (failed_at rules kind texts)) → IfOk r (λ item. item ≡ readied kind pairs (failed_check rules kind pairs))
 readied-by_place rules kind pairs texts (Ok item) known same is =
@@ -492,7 +492,7 @@ readied-by_place rules kind pairs texts (Ok item) known same is =
     ∙ (readied_same rules kind pairs (failed_at rules kind (texts_of kind pairs)) (none_unknown rules kind pairs known) ∙ ap (readied kind pairs) (sym (failed_at-texts_of rules kind pairs known))))
 readied-by_place rules kind pairs texts (Err e) known same is = tt
 
--- an unknown name is told before all else
+-- an unknown name is reported before anything else
 pub bad_by_name : {E : Type 0} (rules : Rules) (kind : Kind) (pairs : List (List ℕ × List ℕ)) (name : List ℕ) (r : Result Readied E) → unknown_name rules kind pairs ≡ Some name
     → IfOk r (λ item. item ≡ Readied.Bad (failed_field 1 name)) → IfOk r (λ item. item ≡ readied kind pairs (failed_check rules kind pairs))
 unfolding failed_check

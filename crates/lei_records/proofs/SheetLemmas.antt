@@ -23,7 +23,7 @@ use Rattle.lei_records.specs.Places.{record_places}
 use Rattle.lei_records.specs.Rows.{Row}
 use Rattle.lei_records.specs.Sheets.{facts_at, field_fails, first_at, first_unknown, has_field, printed_at, read_texts, texts_of}
 
--- the table as code lends it
+-- the table as the code borrows it
 abbrev pub Lent : Type 0
 Lent = List (Bor (List ℕ) × Content × Need)
 
@@ -65,7 +65,7 @@ count-small Kind.Record = omega arith
 count-small Kind.Relation = omega arith
 count-small Kind.Exception = omega arith
 
--- an index of the table is below the number of fields, and so below that of the places
+-- an index of the table is less than the number of fields, and so less than that of the places
 pub within_count : (kind : Kind) (table : Lent) (i : ℕ) → map read_field table ≡ fields_of kind → i < length table → i < field_count kind
 within_count kind table i same bound = rw (sym (length-lent kind table same)) bound
 
@@ -90,12 +90,12 @@ none_at p [] k d none within = absurd (omega arith)
 none_at p (x ∷ xs) zero d none within = (or_parts (p x) (list_any p xs) none).0
 none_at p (x ∷ xs) (suc k) d none within = none_at p xs k d (or_parts (p x) (list_any p xs) none).1 (omega arith)
 
--- two names that the test tells apart, the other way round
+-- two names that differ in one order differ in the other
 apart_turned : (a b : List ℕ) → bytes_eq a b ≡ false → bytes_eq b a ≡ false
 apart_turned a b apart =
     false_from_ne_true (bytes_eq b a) (λ same. false≢true (sym apart ∙ (bytes_eq-Decides a b).1 (sym ((bytes_eq-Decides b a).0 same))))
 
--- no name stands twice
+-- no name occurs twice
 abbrev are_apart : List (List ℕ) → Bool
 are_apart [] = true
 are_apart (name ∷ names) = not (list_any (λ other. bytes_eq other name) names) && are_apart names
@@ -106,7 +106,7 @@ fields_apart Kind.Record = refl
 fields_apart Kind.Relation = refl
 fields_apart Kind.Exception = refl
 
--- the texts under the names when one more pair stands before the others
+-- the texts under the names after one more pair is put before the others
 abbrev with_pair : List ℕ → List ℕ → (List ℕ → Option (List ℕ)) → List ℕ → List ℕ
 with_pair name text others n = unwrap_or (cond (bytes_eq n name) (Some text) (others n)) []
 
@@ -149,21 +149,21 @@ texts_of-known kind name text rest k within is =
     ∙ (touched name text (λ n. lookup (bytes_eq n) rest) (names_of kind) k (fields_apart kind) (rw (length-names_of kind) within) is
     ∙ ap (λ ts. set ts k text) (sym (texts_by_name rest (fields_of kind))))
 
--- an unknown one's goes nowhere
+-- an unknown name's text goes nowhere
 pub texts_of-unknown : (kind : Kind) (name text : List ℕ) (rest : List (List ℕ × List ℕ)) → has_field kind name ≡ false → texts_of kind ((name, text) ∷ rest) ≡ texts_of kind rest
 texts_of-unknown kind name text rest unknown =
     texts_by_name ((name, text) ∷ rest) (fields_of kind)
     ∙ (untouched name text (λ n. lookup (bytes_eq n) rest) (names_of kind) (sym (any_by_name name (fields_of kind)) ∙ unknown)
     ∙ sym (texts_by_name rest (fields_of kind)))
 
--- ---- names that the rules know
+-- ---- names that the rules have
 
--- a name at an index of names that stand once each is among the first ones if the index is
+-- a name at an index less than n is among the first n
 among_first : (name : List ℕ) (ns : List (List ℕ)) (k n : ℕ) → k < n → k < length ns → get_or ns k name ≡ name → list_any (λ m. bytes_eq m name) (take n ns) ≡ true
 among_first name ns k n low within is =
     list_any_at (λ m. bytes_eq m name) (take n ns) k name (omega (arith, low, within, length-take n ns)) ((bytes_eq-Decides _ name).1 (get_or-take n ns k name low ∙ is))
 
--- and else it isn't
+-- and otherwise it isn't, if no name occurs twice
 not_among_first : (name : List ℕ) (ns : List (List ℕ)) (k n : ℕ) → n ≤ k → are_apart ns ≡ true → k < length ns → get_or ns k name ≡ name
     → list_any (λ m. bytes_eq m name) (take n ns) ≡ false
 not_among_first name ns k zero past apart within is = refl
@@ -175,14 +175,14 @@ not_among_first name (m ∷ ns) (suc k) (suc n) past apart within is =
     let other : bytes_eq m name ≡ false = apart_turned name m (ap (λ o. bytes_eq o m) (sym is) ∙ at) in
     rw other (not_among_first name ns k n (omega (arith, past)) parts.1 (omega (arith, within)) is)
 
--- the names of the fields that the rules know
+-- the names of the fields that the rules have
 known_names : (rules : Rules) (kind : Kind) → map (λ field. field.0) (known_fields rules kind) ≡ take (known_count rules kind) (names_of kind)
 known_names rules kind = sym (take-map (λ field. field.0) (known_count rules kind) (fields_of kind))
 
 known_by_names : (rules : Rules) (kind : Kind) (name : List ℕ) → is_field rules kind name ≡ list_any (λ n. bytes_eq n name) (take (known_count rules kind) (names_of kind))
 known_by_names rules kind name = any_by_name name (known_fields rules kind) ∙ ap (list_any (λ n. bytes_eq n name)) (known_names rules kind)
 
--- whether the rules know a field goes by its index
+-- whether the rules have a field depends on its index
 known_at : (rules : Rules) (kind : Kind) (name : List ℕ) (k : ℕ) → k < field_count kind → get_or (names_of kind) k name ≡ name → k < known_count rules kind → is_field rules kind name ≡ true
 known_at rules kind name k within is low =
     known_by_names rules kind name ∙ among_first name (names_of kind) k (known_count rules kind) low (rw (length-names_of kind) within) is
@@ -198,7 +198,7 @@ none_in_front p (suc n) (x ∷ xs) none =
     let parts = or_parts (p x) (list_any p xs) none in
     rw parts.0 (none_in_front p n xs parts.1)
 
--- a name that no field has is none that they know
+-- a name that no field has isn't one that the rules have
 not_known : (rules : Rules) (kind : Kind) (name : List ℕ) → has_field kind name ≡ false → is_field rules kind name ≡ false
 not_known rules kind name none = none_in_front (λ field. bytes_eq field.0 name) (known_count rules kind) (fields_of kind) none
 
@@ -208,7 +208,7 @@ first_unknown-known rules kind name text rest known = rw known refl
 pub first_unknown-unknown : (rules : Rules) (kind : Kind) (name text : List ℕ) (rest : List (List ℕ × List ℕ)) → is_field rules kind name ≡ false → first_unknown rules kind ((name, text) ∷ rest) ≡ Some name
 first_unknown-unknown rules kind name text rest unknown = rw unknown refl
 
--- no pair, no text
+-- without a pair there is no text
 pub texts_of-none : (kind : Kind)
     → take (field_count kind) ([] ∷ [] ∷ [] ∷ [] ∷ [] ∷ [] ∷ [] ∷ [] ∷ [] ∷ [] ∷ [] ∷ [] ∷ [] ∷ [] ∷ [] ∷ [] ∷ [] ∷ [] ∷ [] ∷ [] ∷ [] ∷ [] ∷ [] ∷ [] ∷ [] ∷ [] ∷ [] ∷ [] ∷ [] ∷ [] ∷ [] ∷ [] ∷ []) ≡ texts_of kind []
 unfolding fields relation_fields exception_fields
@@ -251,7 +251,7 @@ told rules kind pairs i p name low high is is_name unknown =
     ap Some is_name ∙ (sym (first_unknown-unknown rules kind p.0 p.1 (drop i pairs) (ap (is_field rules kind) (sym is_name) ∙ unknown))
     ∙ ap (first_unknown rules kind) (sym (drop_before pairs i p low high is)))
 
--- of a field, which the rules know or don't
+-- the first unknown name after the name of a field, which the rules may have or not
 pub told_placed : (rules : Rules) (kind : Kind) (pairs : List (List ℕ × List ℕ)) (i : ℕ) (p : List ℕ × List ℕ) (name : List ℕ) (k : ℕ) (unknown unknown' : Option (List ℕ))
     → 0 < i → i ≤ length pairs → p ≡ get_or pairs (i - 1) p → name ≡ p.0 → k < field_count kind → get_or (names_of kind) k name ≡ name
     → unknown' ≡ cond (nat_lt k (known_count rules kind)) unknown (Some name)
@@ -262,7 +262,7 @@ told_placed rules kind pairs i p name k unknown unknown' low high is is_name wit
       | false ↦ λ test. told rules kind pairs i p name low high is is_name (later_at rules kind name k within at (grind (arith, nat_tests)))
     ] refl
 
--- of a name that no field has
+-- the same after a name that no field has
 pub told_unknown : (rules : Rules) (kind : Kind) (pairs : List (List ℕ × List ℕ)) (i : ℕ) (p : List ℕ × List ℕ) (name : List ℕ)
     → 0 < i → i ≤ length pairs → p ≡ get_or pairs (i - 1) p → name ≡ p.0 → has_field kind name ≡ false
     → Some name ≡ first_unknown rules kind (drop (i - 1) pairs)
@@ -271,11 +271,11 @@ told_unknown rules kind pairs i p name low high is is_name unknown =
 
 -- ---- the entries of the table with their texts, one by one
 
--- an index of the table is one of the texts
+-- an index of the table is an index of the texts
 pub has_text : (kind : Kind) (table : Lent) (texts : List (Bor (List ℕ))) (i : ℕ) → map read_field table ≡ fields_of kind → length texts ≡ field_count kind → i < length table → i < length texts
 has_text kind table texts i same len bound = rw len (within_count kind table i same bound)
 
--- the table of a row's fields, of which there are n
+-- the table of the fields in a row, of which there are n
 pub row_table : (kind : Kind) (n : ℕ) (table : Lent) → n ≡ row_len kind → map read_field table ≡ fields_of kind → map read_field (take n table) ≡ row_fields kind
 row_table kind n table is same = sym (take-map read_field n table) ∙ (ap (take n) same ∙ ap (λ m. take m (fields_of kind)) is)
 
@@ -292,7 +292,7 @@ has_row_text kind n table texts i is len bound =
     let short : i < n = omega (arith, bound, length-take n table) in
     omega (arith, len, short, is, row-short kind)
 
--- the first field of which the answer is yes, and its name
+-- the name of the first field that fails the check
 abbrev pub first_in : FieldCheck → Facts → Lent → List (Bor (List ℕ)) → Option (List ℕ)
 first_in check facts table texts = option_map (λ entry. entry.0.0.now) (find (λ entry. field_fails check facts (read_field entry.0) entry.1.now) (zip table texts))
 
@@ -363,7 +363,7 @@ printed_in-all kind table texts same =
     let make : Field × List ℕ → List ℕ = λ entry. row_text entry.0.1 entry.1 in
     sym (ap (map make) (entries-read table texts (row_fields kind) same) ∙ map-map make read_entry (zip table texts))
 
--- one text more
+-- one more text
 pub printed_in-more : (made : Row) (text : List ℕ) (table : Lent) (texts : List (Bor (List ℕ))) (i : ℕ) (d : Bor (List ℕ) × Content × Need) (e : Bor (List ℕ)) → i < length table → i < length texts
     → text ≡ row_text (get_or table i d).1 (get_or texts i e).now → (made ++ text ∷ []) ++ printed_in (drop (i + 1) table) (drop (i + 1) texts) ≡ made ++ printed_in (drop i table) (drop i texts)
 printed_in-more made text table texts i d e first second is =

@@ -1,4 +1,4 @@
--- The text of a record's successors: what its shape and its check digits say of the codes in it.
+-- The text of a record's successors: what its shape and its check digits say about the LEIs in it.
 use Rattle.std.proofs.Common.{◌≡◌, ◌≤◌, ◌<◌, ◌%◌, ℕ, zero, suc, List, [], ◌∷◌, ◌++◌, Bool, true, false, not, ◌&&◌, length, get_or, refl, sym, ap, subst, ◌∙◌, arith}
 use Rattle.std.specs.Prelude.{◌==◌}
 use Rattle.std.specs.Int.{is_in_range}
@@ -16,7 +16,7 @@ use Rattle.lei_records.specs.Items.{has_other_remainder}
 use Rattle.lei_records.specs.Spelled.{AreCodes}
 use Rattle.lei_records.proofs.Codes.{IsValid-from_shape, passes_at}
 
--- what none passes, the one at an index doesn't pass
+-- if none passes, the one at an index doesn't
 none_at : {X : Type 0} (p : X → Bool) (xs : List X) (k : ℕ) (d : X) → list_any p xs ≡ false → k < length xs → p (get_or xs k d) ≡ false
 none_at p [] k d none within = absurd (omega (arith, within))
 none_at p (x ∷ xs) zero d none within = (or_parts (p x) (list_any p xs) none).0
@@ -27,7 +27,7 @@ right true true fits passes = refl
 right true false fits passes = cc
 right false check fits passes = cc
 
--- texts of codes, of which none has other check digits, are LEIs
+-- texts with the shape of an LEI, none of them with wrong check digits, are LEIs
 valid : (texts : List (List ℕ)) → list_all is_code texts ≡ true → list_any has_other_remainder texts ≡ false → All IsValid texts
 valid texts shaped digits k d within =
     let text = get_or texts k d in
@@ -57,13 +57,13 @@ several text is digits =
       different = outer.1;
     }
 
--- a text of the shape of successors, without other check digits, is LEIs
+-- a text with the shape of successors, without wrong check digits, is LEIs
 pub AreCodes-from_shape : (rules : Rules) (text : List ℕ) → fits_shape (successors_shape rules) text ≡ true → list_any has_other_remainder (between_spaces text) ≡ false → AreCodes text
 AreCodes-from_shape Rules.First text = one text
 AreCodes-from_shape Rules.Second text = several text
 AreCodes-from_shape Rules.Third text = several text
 
--- ---- reading them one after the other
+-- ---- reading them one after another
 
 -- the next one is an LEI
 pub next_valid : (text code : List ℕ) (codes behind : List (List ℕ)) → AreCodes text → codes ++ code ∷ behind ≡ between_spaces text → IsValid code

@@ -1,4 +1,4 @@
--- Cells: what the rules ask of a table, by key. What a record has by its texts, and what a view answers.
+-- Cells: what the rules need of a table, by key. What a record has by its texts, and what a view answers.
 use Rattle.std.specs.Prelude.{ℤ, List, [], Bool, true, false, ◌&&◌, ◌||◌, if◌then◌else◌, Option, Some, None, unwrap_or, option_and_then, codes, drop, slice_get, ⊤}
 use Rattle.std.specs.List.{list_all}
 use Rattle.std.specs.Option.{option_map_or}
@@ -21,8 +21,8 @@ use Rattle.lei_records.specs.Places.{authority_id_place, authority_place, catego
 use Rattle.lei_records.specs.Rows.{Row, text_at}
 use Rattle.lei_records.specs.Spelled.{is_absent, moment_in, present}
 
--- ---- what a record's texts spell. Each part of a record's row can be read; of another row the value behind it stands
--- for it.
+-- ---- what the texts of a record read as. Each part of a record's row can be read; for another row the definition
+-- gives a default value.
 
 -- The entity's LEI.
 abbrev pub lei_in : Row → Lei
@@ -32,11 +32,11 @@ lei_in row = text_at row lei_place
 unfoldable pub status_in : Row → RecordStatus
 status_in row = unwrap_or (record_status_of (text_at row status_place)) RecordStatus.Annulled
 
--- Whether the entity is active, as the record says it.
+-- Whether the entity is active, as the record says.
 unfoldable pub entity_status_in : Row → EntityStatus
 entity_status_in row = unwrap_or (entity_status_of (text_at row entity_status_place)) EntityStatus.Null
 
--- What kind of entity it is.
+-- The kind of entity.
 unfoldable pub category_in : Row → Category
 category_in row = unwrap_or (category_of (text_at row category_place)) Category.General
 
@@ -44,7 +44,7 @@ category_in row = unwrap_or (category_of (text_at row category_place)) Category.
 abbrev pub authority_in : Row → Text
 authority_in row = text_at row authority_place
 
--- The authority's id of the entity.
+-- The authority's id for the entity.
 abbrev pub authority_id_in : Row → Text
 authority_id_in row = text_at row authority_id_place
 
@@ -60,7 +60,7 @@ updated_in row = moment_in row updated_place
 abbrev pub renewal_in : Row → ℤ
 renewal_in row = moment_in row renewal_place
 
--- When the entity was created, where that is said.
+-- When the entity was created, if that is given.
 abbrev pub created_in : Row → Option ℤ
 created_in row = option_and_then read_moment (present (text_at row created_place))
 
@@ -68,39 +68,39 @@ created_in row = option_and_then read_moment (present (text_at row created_place
 abbrev pub manager_in : Row → Lei
 manager_in row = text_at row manager_place
 
--- The entities that followed this one, in the order in which the record names them.
+-- The entities that succeeded this one, in the order in which the record names them.
 unfoldable pub successors_in : Row → List Lei
 successors_in row = option_map_or between_spaces (present (text_at row successor_place)) []
 
--- The first of them, which is the only one that the first rules know.
+-- The first of them, which is the only one by the first rules.
 abbrev pub successor_in : Row → Option Lei
 successor_in row = slice_get (successors_in row) 0
 
--- The issuer that the record is handed over to.
+-- The issuer that the record is to be transferred to.
 abbrev pub receiver_in : Row → Option Lei
 receiver_in row = present (text_at row receiver_place)
 
--- What happens to the entity, where that is said.
+-- What happens to the entity, if that is given.
 abbrev pub event_type_in : Row → Option EventType
 event_type_in row = option_and_then event_type_of (present (text_at row event_type_place))
 
--- From when on that event has effect, where that is said.
+-- When that event takes effect, if that is given.
 abbrev pub event_effective_in : Row → Option ℤ
 event_effective_in row = option_and_then read_moment (present (text_at row event_effective_place))
 
--- When the event was recorded, where that is said.
+-- When the event was recorded, if that is given.
 abbrev pub event_recorded_in : Row → Option ℤ
 event_recorded_in row = option_and_then read_moment (present (text_at row event_recorded_place))
 
--- How far the event has come, where that is said.
+-- How far the event has come, if that is given.
 abbrev pub event_status_in : Row → Option EventStatus
 event_status_in row = option_and_then event_status_of (present (text_at row event_status_place))
 
--- The record tells of no event: the fields of one, which are the last of a row, are absent.
+-- The record has no event: the fields of an event, which are the last of a row, are absent.
 abbrev pub has_no_event : Row → Bool
 has_no_event row = list_all is_absent (drop places_before_event row)
 
--- What the rules ask of a record that is held.
+-- What the rules need of a held record.
 abbrev pub rec_cell : Row → RecCell
 rec_cell row = record {
   status = status_in row;
@@ -114,7 +114,7 @@ rec_cell row = record {
 
 -- ---- live records and their authority keys
 
--- A record is live under this status: ISSUED, LAPSED, PENDING_TRANSFER and PENDING_ARCHIVAL.
+-- A record with this status is live: ISSUED, LAPSED, PENDING_TRANSFER or PENDING_ARCHIVAL.
 abbrev pub is_live_status : RecordStatus → Bool
 is_live_status RecordStatus.Issued = true
 is_live_status RecordStatus.Lapsed = true
@@ -128,12 +128,12 @@ is_live_status RecordStatus.Annulled = false
 abbrev pub is_live : Row → Bool
 is_live row = is_live_status (status_in row)
 
--- The text is one of the two that stand where no registration authority does.
+-- The text is one of the two that are used if there is no registration authority.
 abbrev pub is_no_authority : Text → Bool
 is_no_authority text = bytes_eq text (codes "RA888888") || bytes_eq text (codes "RA999999")
 
--- A record's authority key: the registration authority and its id of the entity. None where the id is absent, or where
--- the authority is none.
+-- A record's authority key: the registration authority and its id for the entity. It is `None` if the id is absent or
+-- there is no authority.
 unfoldable pub akey : Row → Option (Text × Text)
 akey row = if is_absent (authority_id_in row) || is_no_authority (authority_in row) then None
     else Some (authority_in row, authority_id_in row)

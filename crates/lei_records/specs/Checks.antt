@@ -1,14 +1,14 @@
--- Checks: what each is called, what one that failed tells, and which of several is told. This project's profile.
+-- Checks: the name of each, what a failed one reports, and which of several is reported. This project's profile.
 use Rattle.std.specs.Prelude.{ℕ, List, [], ◌∷◌, ◌++◌, codes, Bool, ◌==◌, if◌then◌else◌, Option, Some, None, IsSome, option_map}
 use Rattle.std.specs.Map.{lookup}
 use Rattle.lei_code.specs.Texts.{Lei, Text}
 use Rattle.lei_shapes.specs.Lists.{record_status_text}
 use Rattle.lei_records.specs.declared.check.Detail.{Detail}
 
--- ---- what a check is called
+-- ---- the names of checks
 
--- The number of each check, and what it is called by. C01 to C04 are asked of the fields of each item, C05 to C22 of a
--- record, C30 to C40 of a relationship, and C50 to C53 of an exception.
+-- The number of each check, and its name. C01 to C04 check the fields of each item, C05 to C22 a record, C30 to C40 a
+-- relationship, and C50 to C53 an exception.
 abbrev pub check_names : List (ℕ × Text)
 check_names =
     (1, codes "C01 FIELD_UNKNOWN")
@@ -50,11 +50,11 @@ check_names =
     ∷ (53, codes "C53 NOTHING_TO_WITHDRAW")
     ∷ []
 
--- What the check of this number is called. A number that no check has is called nothing.
+-- The name of the check with this number. There is none if no check has the number.
 abbrev pub check_name : ℕ → Option Text
 check_name number = lookup (λ listed. number == listed) check_names
 
--- There is a check of this number.
+-- There is a check with this number.
 abbrev pub IsNumber : ℕ → Type 0
 IsNumber number = IsSome (check_name number)
 
@@ -65,32 +65,32 @@ pub record FailedCheck : Type 0 where
   pub number : ℕ
   pub detail : Detail
 
--- What a failed check names, as a text: a field by its name, a status and an LEI by their texts.
+-- What a failed check names, as a text: a field by its name, and a status or an LEI by its text.
 abbrev pub detail_text : Detail → Option Text
 detail_text Detail.None = None
 detail_text (Detail.Field name) = Some name
 detail_text (Detail.Status status) = Some (record_status_text status)
 detail_text (Detail.Code lei) = Some lei
 
--- A text and, behind a space, what is named, if anything is.
+-- A text, followed by a space and by what is named, if anything is.
 abbrev pub with_named : Text → Option Text → Text
 with_named text None = text
 with_named text (Some name) = text ++ 32 ∷ name
 
--- How a failed check is told: by what it is called and, behind a space, by what it names. Where no check has its
--- number, it can't be told.
+-- The text of a failed check: its name and, after a space, what it names, if anything. There is no text if no check has
+-- its number.
 abbrev pub check_text : FailedCheck → Option Text
 check_text check = option_map (λ name. with_named name (detail_text check.detail)) (check_name check.number)
 
--- ---- which check is told
+-- ---- which check is reported
 
--- What a check finds: its number, whether it fails, and what it names then.
+-- What a check finds: its number, whether it fails, and what it names if it does.
 pub record Finding : Type 0 where
   pub number : ℕ
   pub fails : Bool
   pub detail : Detail
 
--- The check of this number fails where the answer is yes, and names this then.
+-- The check with this number fails if the test is true, and then names this.
 abbrev pub fails_if : Bool → ℕ → Detail → Finding
 fails_if fails number detail = record { number = number; fails = fails; detail = detail }
 
@@ -101,12 +101,12 @@ first_failing (finding ∷ findings) =
     if finding.fails then Some (record { number = finding.number; detail = finding.detail }) else
     first_failing findings
 
--- A field that is absent is named.
+-- A field that is absent is named, if there is one.
 abbrev pub field_detail : Option Text → Detail
 field_detail None = Detail.None
 field_detail (Some name) = Detail.Field name
 
--- An LEI that stands in the way is named.
+-- An LEI that the item conflicts with is named, if there is one.
 abbrev pub code_detail : Option Lei → Detail
 code_detail None = Detail.None
 code_detail (Some lei) = Detail.Code lei

@@ -1,5 +1,5 @@
--- What the row of an exception spells by its texts. Each part of such a row can be read; for that of another row stands
--- the value behind it.
+-- What the texts of an exception's row read as. Each part of such a row can be read; for another row the definition
+-- gives a default value.
 use Rattle.std.specs.Prelude.{Bool, Option, unwrap_or, option_and_then}
 use Rattle.std.specs.Str.{bytes_eq}
 use Rattle.lei_code.specs.Texts.{Lei}
@@ -20,10 +20,10 @@ exception_category_in row =
     unwrap_or (exception_category_of (text_at row exception_category_place))
     ExceptionCategory.UltimateAccountingConsolidationParent
 
--- Why it doesn't, where that is said.
+-- Why it doesn't, if that is given.
 abbrev pub reason_in : Row → Option Reason
 reason_in row = option_and_then reason_of (present (text_at row reason_place))
 
--- Two categories of exceptions are one: they have one text.
+-- Two categories of exceptions are the same: they have the same text.
 abbrev pub is_same_category : ExceptionCategory → ExceptionCategory → Bool
 is_same_category a b = bytes_eq (exception_category_text a) (exception_category_text b)

@@ -1,6 +1,6 @@
--- The fields of the three kinds of items in order of place: how each is named, what it holds, and where it is needed.
--- The names are those of the columns of a golden copy (level 1, level 2 and reporting exceptions), but for
--- Register.TransferTo, those of an event and Action; what they hold and where they are needed is this project's profile.
+-- The fields of the three kinds of items in order of place: the name of each, what it holds, and when it is needed. The
+-- names are those of the columns of a golden copy (level 1, level 2 and reporting exceptions), except for
+-- Register.TransferTo, those of an event and Action. What they hold and when they are needed is this project's profile.
 use Rattle.std.specs.Prelude.{ℕ, ◌-◌, List, [], ◌∷◌, map, take, slice_index_or, Bool, true, false, not, ◌||◌, codes}
 use Rattle.std.specs.Borrow.{Bor}
 use Rattle.std.specs.Str.{bytes_eq}
@@ -14,11 +14,11 @@ use Rattle.lei_records.specs.declared.fields.Facts.{Facts}
 use Rattle.lei_records.specs.declared.rules.Rules.{Rules}
 use Rattle.lei_records.specs.Places.{action_place, exception_places, places_before_event, record_places, relation_places}
 
--- A field: its name, what it holds, and where it is needed.
+-- A field: its name, what it holds, and when it is needed.
 abbrev pub Field : Type 0
 Field = Text × Content × Need
 
--- The same of a field whose name is lent.
+-- The same for a field whose name is borrowed.
 abbrev pub read_field : Bor Text × Content × Need → Field
 read_field field = (field.0.now, field.1, field.2)
 
@@ -75,7 +75,7 @@ relation_fields =
     ∷ (codes "Registration.ValidationSources", Content.Shaped Shape.Validation, Need.Always)
     ∷ []
 
--- The five fields of an exception: the four of its row in order of place, and Action behind them.
+-- The five fields of an exception: the four of its row in order of place, and Action after them.
 unfoldable pub exception_fields : List Field
 exception_fields =
     (codes "LEI", Content.Shaped Shape.Code, Need.Always)
@@ -91,35 +91,35 @@ fields_of Kind.Record = fields
 fields_of Kind.Relation = relation_fields
 fields_of Kind.Exception = exception_fields
 
--- How many they are.
+-- The number of fields of a kind of item.
 abbrev pub field_count : Kind → ℕ
 field_count Kind.Record = record_places
 field_count Kind.Relation = relation_places
 field_count Kind.Exception = action_place
 
--- How many of a record's fields, from the first, the rules know: those of an event come with the third rules.
+-- How many of a record's fields, counted from the first, the rules have: those of an event come with the third rules.
 abbrev pub record_fields_known : Rules → ℕ
 record_fields_known Rules.First = places_before_event
 record_fields_known Rules.Second = places_before_event
 record_fields_known Rules.Third = record_places
 
--- How many fields of a kind of item, from the first, the rules know.
+-- How many fields of a kind of item, counted from the first, the rules have.
 abbrev pub known_count : Rules → Kind → ℕ
 known_count rules Kind.Record = record_fields_known rules
 known_count rules Kind.Relation = relation_places
 known_count rules Kind.Exception = action_place
 
--- The fields that the rules know.
+-- The fields that the rules have.
 abbrev pub known_fields : Rules → Kind → List Field
 known_fields rules kind = take (known_count rules kind) (fields_of kind)
 
--- How many fields, from the first, stand in a row: all but Action.
+-- How many fields, counted from the first, are in a row: all but Action.
 abbrev pub row_len : Kind → ℕ
 row_len Kind.Record = record_places
 row_len Kind.Relation = relation_places
 row_len Kind.Exception = exception_places
 
--- The fields that stand in a row.
+-- The fields that are in a row.
 abbrev pub row_fields : Kind → List Field
 row_fields kind = take (row_len kind) (fields_of kind)
 
@@ -147,7 +147,7 @@ successors_shape Rules.First = Shape.Code
 successors_shape Rules.Second = Shape.Codes
 successors_shape Rules.Third = Shape.Codes
 
--- The text is one that the field can hold by these rules.
+-- The text is one that the field may hold by these rules.
 abbrev pub fits_content : Rules → Content → Text → Bool
 fits_content rules (Content.Shaped shape) text = fits_shape shape text
 fits_content rules Content.Successors text = fits_shape (successors_shape rules) text
@@ -164,16 +164,16 @@ codes_in (Content.Shaped shape) text = codes_of_shape shape text
 codes_in Content.Successors text = between_spaces text
 codes_in Content.Action text = []
 
--- ---- where a field is needed
+-- ---- when a field is needed
 
--- A field of this need has to stand in an item of these facts.
+-- An item with these facts needs a field with this need.
 abbrev pub is_needed : Facts → Need → Bool
 is_needed facts Need.Always = true
 is_needed facts Need.Optional = false
 is_needed facts Need.WherePendingArchival = facts.archival
 is_needed facts Need.UnlessWithdrawn = not facts.withdrawal
 
--- A field of this need may stand in an item of these facts.
+-- An item with these facts may have a field with this need.
 abbrev pub may_stand : Facts → Need → Bool
 may_stand facts Need.Always = true
 may_stand facts Need.Optional = true

@@ -1,5 +1,5 @@
--- Whether an item that was sent is a record, a relationship or an exception: the checks of its fields, each a sentence
--- over them, and the row that it has. This project's profile.
+-- Whether an item that was sent is a record, a relationship or an exception: the checks of its fields, each a statement
+-- about them, and the row that it has. This project's profile.
 use Rattle.std.specs.Prelude.{ℕ, ◌%◌, List, map, filter, codes, Bool, not, ◌&&◌, ◌==◌, if◌then◌else◌, find, Option, Some, None, option_map, unwrap_or}
 use Rattle.std.specs.Option.{option_or}
 use Rattle.std.specs.List.{list_any}
@@ -26,11 +26,11 @@ use Rattle.lei_records.specs.Rows.{Row}
 use Rattle.lei_records.specs.Spelled.{is_absent}
 pub use Rattle.lei_records.specs.Spelled.{IsRow, IsRelationRow, IsExceptionRow, IsRowOf}
 
--- The text that an item has under a name; the empty text where it has none.
+-- The text that an item has under a name, or the empty text if it has none.
 abbrev pub text_of : List (Text × Text) → Text → Text
 text_of pairs name = unwrap_or (lookup (bytes_eq name) pairs) (codes "")
 
--- The item's registration status is PENDING_ARCHIVAL: it is to be handed over to another issuer.
+-- The item's registration status is PENDING_ARCHIVAL: it is to be transferred to another issuer.
 abbrev pub is_archival : List (Text × Text) → Bool
 is_archival pairs = bytes_eq (text_of pairs (codes "Registration.RegistrationStatus")) (codes "PENDING_ARCHIVAL")
 
@@ -42,36 +42,37 @@ is_withdrawal pairs = bytes_eq (text_of pairs (codes "Action")) (codes "WITHDRAW
 abbrev pub facts_of : Rules → List (Text × Text) → Facts
 facts_of rules pairs = record { rules = rules; archival = is_archival pairs; withdrawal = is_withdrawal pairs }
 
--- The name is that of a field of this kind of item that the rules know.
+-- The name is that of a field of this kind of item that the rules have.
 abbrev pub is_field : Rules → Kind → Text → Bool
 is_field rules kind name = list_any (λ field. bytes_eq field.0 name) (known_fields rules kind)
 
--- ---- what a check asks of a field and its text, in an item of these facts
+-- ---- what a check tests in a field and its text, in an item with these facts
 
 -- A needed field is absent.
 abbrev pub is_missing : Facts → Field → Text → Bool
 is_missing facts field text = is_needed facts field.2 && is_absent text
 
--- A field stands, and has another shape or may not stand there.
+-- A field is present, and has another shape or may not be present.
 abbrev pub is_misshapen : Facts → Field → Text → Bool
 is_misshapen facts field text = not (is_absent text) && not
     (fits_content facts.rules field.1 text && may_stand facts field.2)
 
--- A text of an LEI's shape leaves, as a number, another remainder than 1 by 97 (ISO/IEC 7064, MOD 97-10).
+-- A text with the shape of an LEI, as a number, doesn't leave the remainder 1 when divided by 97 (ISO/IEC 7064, MOD
+-- 97-10).
 abbrev pub has_other_remainder : Text → Bool
 has_other_remainder text = is_code text && not (number text % 97 == 1)
 
--- A field that is to hold an LEI, or several, has one with wrong check digits.
+-- A field that may hold an LEI, or several, has one with wrong check digits.
 abbrev pub has_wrong_digits : Field → Text → Bool
 has_wrong_digits field text = list_any has_other_remainder (codes_in field.1 text)
 
 -- ---- the checks, each with the name that it finds
 
--- C01: the least name in byte order that is no field's of this kind.
+-- C01: the least name in byte order that isn't that of a field of this kind by these rules.
 abbrev pub unknown_name : Rules → Kind → List (Text × Text) → Option Text
 unknown_name rules kind pairs = least (filter (λ name. not (is_field rules kind name)) (names pairs))
 
--- The first field by place of whose text the answer is yes.
+-- The name of the first field by place for which the test of its text is true.
 abbrev pub first_field : (Field → Text → Bool) → Kind → List (Text × Text) → Option Text
 first_field asks kind pairs = option_map (λ field. field.0)
     (find (λ field. asks field (text_of pairs field.0)) (fields_of kind))
@@ -80,7 +81,7 @@ first_field asks kind pairs = option_map (λ field. field.0)
 abbrev pub missing_field : Rules → Kind → List (Text × Text) → Option Text
 missing_field rules kind pairs = first_field (is_missing (facts_of rules pairs)) kind pairs
 
--- C03: the first field that stands and has another shape, or may not stand there.
+-- C03: the first field that is present and has another shape, or may not be present.
 abbrev pub misshapen_field : Rules → Kind → List (Text × Text) → Option Text
 misshapen_field rules kind pairs = first_field (is_misshapen (facts_of rules pairs)) kind pairs
 
@@ -101,23 +102,23 @@ failed_check rules kind pairs = option_or (option_map (failed_field 1) (unknown_
 
 -- ---- what an item is
 
--- A text of a shape as a row has it: that of a moment in printed form, and every other one as it was sent.
+-- A text of a shape in its form for a row: a moment is in printed form, and any other text is as it was sent.
 abbrev pub printed : Shape → Text → Text
 printed Shape.Moment text = if is_absent text then text else unwrap_or
     (option_map moment_text (read_moment text)) text
 printed other text = text
 
--- The text of a field as a row has it.
+-- The text of a field in its form for a row.
 abbrev pub row_text : Content → Text → Text
 row_text (Content.Shaped shape) text = printed shape text
 row_text Content.Successors text = text
 row_text Content.Action text = text
 
--- The row of an item: the texts of the fields that stand in one, in order of place.
+-- The row of an item: the texts of the fields that are in a row, in order of place.
 unfoldable pub row_of : Kind → List (Text × Text) → Row
 row_of kind pairs = map (λ field. row_text field.1 (text_of pairs field.0)) (row_fields kind)
 
--- The item of a kind with this row; of an exception it is said whether it is a withdrawal.
+-- The item of a kind with this row; for an exception, with whether it is a withdrawal.
 abbrev pub item_of : Kind → Bool → Row → Item
 item_of Kind.Record withdraws row = Item.Record row
 item_of Kind.Relation withdraws row = Item.Relation row
@@ -128,11 +129,11 @@ abbrev pub readied : Kind → List (Text × Text) → Option FailedCheck → Rea
 readied kind pairs (Some check) = Readied.Bad check
 readied kind pairs None = Readied.Good (item_of kind (is_withdrawal pairs) (row_of kind pairs))
 
--- What the fields of an item of this kind come to by these rules: the first check that they fail, or else the item.
+-- The result for the fields of an item of this kind by these rules: the first check that they fail, or else the item.
 abbrev pub ready_as : Rules → Kind → List (Text × Text) → Readied
 ready_as rules kind pairs = readied kind pairs (failed_check rules kind pairs)
 
--- What an item comes to as it was sent, by these rules: the first check that its fields fail, or else the item.
+-- The result for an item as it was sent, by these rules: the first check that its fields fail, or else the item.
 abbrev pub ready : Rules → RawItem → Readied
 ready rules (RawItem.Record pairs) = ready_as rules Kind.Record pairs
 ready rules (RawItem.Relation pairs) = ready_as rules Kind.Relation pairs

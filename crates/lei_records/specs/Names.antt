@@ -5,25 +5,25 @@ use Rattle.std.specs.Cmp.Lexicographic.{slice_cmp}
 use Rattle.std.specs.List.Sorted.{IsStrictlySortedBy}
 use Rattle.lei_code.specs.Texts.{Text}
 
--- The names of fields, each a name and a text.
+-- The names of fields, each of which is a name and a text.
 abbrev pub names : List (Text × Text) → List Text
 names fields = map (λ field. field.0) fields
 
--- The names rise strictly in byte order, so none stands twice.
+-- The names rise strictly in byte order, so no name occurs twice.
 abbrev pub AreRising : List (Text × Text) → Type 0
 AreRising fields = IsStrictlySortedBy (slice_cmp nat_cmp) (names fields)
 
--- Of two names the lesser in byte order, and the one where there is no other.
+-- The lesser of two names in byte order, or the first if there is no other.
 abbrev pub lesser : Text → Option Text → Text
 lesser name None = name
 lesser name (Some other) = if is_lt (slice_cmp nat_cmp other name) then other else name
 
--- The least of names in byte order, where there are any.
+-- The least of the names in byte order, if there are any.
 abbrev pub least : List Text → Option Text
 least [] = None
 least (name ∷ names) = Some (lesser name (least names))
 
--- Texts two by two: each a name with its text. One that is left over belongs to none.
+-- Texts in pairs: each a name with its text. A text that is left over is in no pair.
 abbrev pub paired : List Text → List (Text × Text)
 paired [] = []
 paired (name ∷ []) = []

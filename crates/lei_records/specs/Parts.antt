@@ -1,4 +1,4 @@
--- The typed parts of a record, a relationship and an exception are what the texts of its row spell.
+-- The typed parts of a record, a relationship or an exception are what the texts of its row read as.
 use Rattle.std.specs.Prelude.{◌≡◌, ◌<◌, ℕ, ℤ, List, [], length, Option, Some, None, get_or}
 use Rattle.std.specs.Arc.{arc_value}
 use Rattle.lei_records.specs.declared.exception.ExceptionItem.TheInside.{Inside as ExceptionParts}
@@ -11,7 +11,7 @@ use Rattle.lei_records.specs.Rows.{Row}
 use Rattle.lei_records.specs.Spelled.{IsExceptionRow, IsRelationRow, IsRow}
 use Rattle.lei_shapes.specs.Moment.{read_moment}
 
--- The parts are those of a record whose row the texts are.
+-- The parts are those of a record with these texts as its row.
 pub record IsSpelled (parts : Inside) : Type 0 where
   pub row : IsRow (arc_value parts.texts)
   pub lei : parts.lei ≡ lei_in (arc_value parts.texts)
@@ -26,7 +26,7 @@ pub record IsSpelled (parts : Inside) : Type 0 where
   pub manager : parts.manager ≡ manager_in (arc_value parts.texts)
   pub transfer_to : parts.transfer_to ≡ receiver_in (arc_value parts.texts)
 
--- The parts are those of a relationship whose row the texts are.
+-- The parts are those of a relationship with these texts as its row.
 pub record IsRelationSpelled (parts : RelationParts) : Type 0 where
   pub row : IsRelationRow (arc_value parts.texts)
   pub start : parts.start ≡ start_in (arc_value parts.texts)
@@ -40,14 +40,14 @@ pub record IsRelationSpelled (parts : RelationParts) : Type 0 where
   pub registration : parts.registration ≡ registration_in (arc_value parts.texts)
   pub manager : parts.manager ≡ relation_manager_in (arc_value parts.texts)
 
--- The parts are those of an exception whose row the texts are.
+-- The parts are those of an exception with these texts as its row.
 pub record IsExceptionSpelled (parts : ExceptionParts) : Type 0 where
   pub row : IsExceptionRow (arc_value parts.texts)
   pub lei : parts.lei ≡ subject_in (arc_value parts.texts)
   pub category : parts.category ≡ exception_category_in (arc_value parts.texts)
   pub reason : parts.reason ≡ reason_in (arc_value parts.texts)
 
--- Each moment is the one that the text of its index reads as. Of a text without one nothing is said.
+-- Each moment is the one that the text at its index reads as. Nothing is said about a text without a moment.
 abbrev pub AreRead : Row → List (Option ℤ) → Type 0
 AreRead row moments = (index : ℕ) (moment : ℤ) → index < length row → get_or moments index None ≡ Some moment
     → read_moment (get_or row index []) ≡ Some moment

@@ -1,5 +1,5 @@
--- Places: where the fields that rules speak of stand in a row, counted from 1, and how many fields a row has. The
--- tables of the fields (`Fields.antt`) have each field at its place. This project's profile.
+-- Places: where the fields that the rules use are in a row, counted from 1, and how many fields a row has. In the
+-- tables of the fields (`Fields.antt`) each field is at its place. This project's profile.
 use Rattle.std.specs.Prelude.{ℕ, List, [], ◌∷◌, codes}
 use Rattle.lei_code.specs.Texts.{Text}
 use Rattle.lei_records.specs.declared.fields.Kind.{Kind}
@@ -14,71 +14,71 @@ record_places = 32
 abbrev pub places_before_event : ℕ
 places_before_event = 28
 
--- Where the field LEI stands.
+-- The place of the field LEI.
 abbrev pub lei_place : ℕ
 lei_place = 1
 
--- Where the field Entity.RegistrationAuthority.RegistrationAuthorityID stands.
+-- The place of the field Entity.RegistrationAuthority.RegistrationAuthorityID.
 abbrev pub authority_place : ℕ
 authority_place = 14
 
--- Where the field Entity.RegistrationAuthority.RegistrationAuthorityEntityID stands.
+-- The place of the field Entity.RegistrationAuthority.RegistrationAuthorityEntityID.
 abbrev pub authority_id_place : ℕ
 authority_id_place = 15
 
--- Where the field Entity.EntityCategory stands.
+-- The place of the field Entity.EntityCategory.
 abbrev pub category_place : ℕ
 category_place = 17
 
--- Where the field Entity.EntityStatus stands.
+-- The place of the field Entity.EntityStatus.
 abbrev pub entity_status_place : ℕ
 entity_status_place = 19
 
--- Where the field Entity.EntityCreationDate stands.
+-- The place of the field Entity.EntityCreationDate.
 abbrev pub created_place : ℕ
 created_place = 20
 
--- Where the field Entity.SuccessorEntity.1.SuccessorLEI stands.
+-- The place of the field Entity.SuccessorEntity.1.SuccessorLEI.
 abbrev pub successor_place : ℕ
 successor_place = 21
 
--- Where the field Registration.InitialRegistrationDate stands.
+-- The place of the field Registration.InitialRegistrationDate.
 abbrev pub initial_place : ℕ
 initial_place = 22
 
--- Where the field Registration.LastUpdateDate stands.
+-- The place of the field Registration.LastUpdateDate.
 abbrev pub updated_place : ℕ
 updated_place = 23
 
--- Where the field Registration.RegistrationStatus stands.
+-- The place of the field Registration.RegistrationStatus.
 abbrev pub status_place : ℕ
 status_place = 24
 
--- Where the field Registration.NextRenewalDate stands.
+-- The place of the field Registration.NextRenewalDate.
 abbrev pub renewal_place : ℕ
 renewal_place = 25
 
--- Where the field Registration.ManagingLOU stands.
+-- The place of the field Registration.ManagingLOU.
 abbrev pub manager_place : ℕ
 manager_place = 26
 
--- Where the field Register.TransferTo stands.
+-- The place of the field Register.TransferTo.
 abbrev pub receiver_place : ℕ
 receiver_place = 28
 
--- Where the field Entity.Event.1.Type stands.
+-- The place of the field Entity.Event.1.Type.
 abbrev pub event_type_place : ℕ
 event_type_place = 29
 
--- Where the field Entity.Event.1.EffectiveDate stands.
+-- The place of the field Entity.Event.1.EffectiveDate.
 abbrev pub event_effective_place : ℕ
 event_effective_place = 30
 
--- Where the field Entity.Event.1.RecordedDate stands.
+-- The place of the field Entity.Event.1.RecordedDate.
 abbrev pub event_recorded_place : ℕ
 event_recorded_place = 31
 
--- Where the field Entity.Event.1.Status stands.
+-- The place of the field Entity.Event.1.Status.
 abbrev pub event_status_place : ℕ
 event_status_place = 32
 
@@ -88,43 +88,43 @@ event_status_place = 32
 abbrev pub relation_places : ℕ
 relation_places = 11
 
--- Where the field Relationship.StartNode stands.
+-- The place of the field Relationship.StartNode.
 abbrev pub start_place : ℕ
 start_place = 1
 
--- Where the field Relationship.RelationshipType stands.
+-- The place of the field Relationship.RelationshipType.
 abbrev pub type_place : ℕ
 type_place = 2
 
--- Where the field Relationship.EndNode stands.
+-- The place of the field Relationship.EndNode.
 abbrev pub end_place : ℕ
 end_place = 3
 
--- Where the field Relationship.RelationshipStatus stands.
+-- The place of the field Relationship.RelationshipStatus.
 abbrev pub relation_status_place : ℕ
 relation_status_place = 4
 
--- Where the field Relationship.StartDate stands.
+-- The place of the field Relationship.StartDate.
 abbrev pub started_place : ℕ
 started_place = 5
 
--- Where the field Relationship.EndDate stands.
+-- The place of the field Relationship.EndDate.
 abbrev pub ended_place : ℕ
 ended_place = 6
 
--- Where the field Registration.InitialRegistrationDate stands.
+-- The place of the field Registration.InitialRegistrationDate.
 abbrev pub relation_initial_place : ℕ
 relation_initial_place = 7
 
--- Where the field Registration.LastUpdateDate stands.
+-- The place of the field Registration.LastUpdateDate.
 abbrev pub relation_updated_place : ℕ
 relation_updated_place = 8
 
--- Where the field Registration.RegistrationStatus stands.
+-- The place of the field Registration.RegistrationStatus.
 abbrev pub registration_place : ℕ
 registration_place = 9
 
--- Where the field Registration.ManagingLOU stands.
+-- The place of the field Registration.ManagingLOU.
 abbrev pub relation_manager_place : ℕ
 relation_manager_place = 10
 
@@ -134,25 +134,25 @@ relation_manager_place = 10
 abbrev pub exception_places : ℕ
 exception_places = 4
 
--- Where the field LEI stands.
+-- The place of the field LEI.
 abbrev pub subject_place : ℕ
 subject_place = 1
 
--- Where the field ExceptionCategory stands.
+-- The place of the field ExceptionCategory.
 abbrev pub exception_category_place : ℕ
 exception_category_place = 2
 
--- Where the field ExceptionReason stands.
+-- The place of the field ExceptionReason.
 abbrev pub reason_place : ℕ
 reason_place = 3
 
--- Where the field Action stands: behind the fields of the row.
+-- The place of the field Action, which comes after the fields of the row.
 abbrev pub action_place : ℕ
 action_place = 5
 
 -- ---- the names of the fields at these places
 
--- The places that are spoken of, each with the name of the field that stands there.
+-- The places that the rules use, each with the name of the field there.
 abbrev pub named_places : Kind → List (ℕ × Text)
 named_places Kind.Record =
     (lei_place, codes "LEI")

@@ -1,5 +1,5 @@
--- What the row of a relationship spells by its texts. Each part of such a row can be read; for that of another row
--- stands the value behind it.
+-- What the texts of a relationship's row read as. Each part of such a row can be read; for another row the definition
+-- gives a default value.
 use Rattle.std.specs.Prelude.{ℤ, Bool, true, false, ◌&&◌, Option, unwrap_or, option_and_then}
 use Rattle.std.specs.Str.{bytes_eq}
 use Rattle.lei_code.specs.Texts.{Lei}
@@ -25,16 +25,16 @@ kind_in row = unwrap_or (relation_type_of (text_at row type_place)) RelationType
 abbrev pub end_in : Row → Lei
 end_in row = text_at row end_place
 
--- Whether the relationship is active, as it says itself.
+-- Whether the relationship is active, as its row says.
 unfoldable pub relation_status_in : Row → RelationStatus
 relation_status_in row = unwrap_or (relation_status_of (text_at row relation_status_place))
     RelationStatus.Inactive
 
--- When the relationship began: its StartDate.
+-- When the relationship started: its StartDate.
 abbrev pub started_in : Row → ℤ
 started_in row = moment_in row started_place
 
--- When it ended, where that is said: its EndDate.
+-- When it ended, if that is given: its EndDate.
 abbrev pub ended_in : Row → Option ℤ
 ended_in row = option_and_then read_moment (present (text_at row ended_place))
 
@@ -55,7 +55,7 @@ registration_in row = unwrap_or (relation_registration_of (text_at row registrat
 abbrev pub relation_manager_in : Row → Lei
 relation_manager_in row = text_at row relation_manager_place
 
--- What the rules ask of a relationship that is held.
+-- What the rules need of a held relationship.
 abbrev pub rel_cell : Row → RelCell
 rel_cell row = record { status = relation_status_in row; registration = registration_in row }
 
@@ -70,7 +70,7 @@ is_active_status RelationStatus.Inactive = false
 abbrev pub is_active : Row → Bool
 is_active row = is_active_status (relation_status_in row)
 
--- Two types of relationships are one: they have one text.
+-- Two types of relationships are the same: they have the same text.
 abbrev pub is_same_type : RelationType → RelationType → Bool
 is_same_type a b = bytes_eq (relation_type_text a) (relation_type_text b)
 

@@ -17,7 +17,7 @@ use Rattle.lei_records.specs.Names.{names}
 use Rattle.lei_records.specs.Places.{action_place, registration_place, status_place}
 use Rattle.lei_records.specs.Rows.{Row, text_at}
 
--- Texts that are lent.
+-- Borrowed texts as a row.
 abbrev pub read_texts : List (Bor Text) → Row
 read_texts texts = map (λ text. text.now) texts
 
@@ -25,11 +25,11 @@ read_texts texts = map (λ text. text.now) texts
 abbrev pub texts_of : Kind → List (Text × Text) → Row
 texts_of kind pairs = map (λ field. text_of pairs field.0) (fields_of kind)
 
--- A field of this kind has this name, whether the rules know it or not.
+-- A field of this kind has this name, whether or not the rules have the field.
 abbrev pub has_field : Kind → Text → Bool
 has_field kind name = list_any (λ field. bytes_eq field.0 name) (fields_of kind)
 
--- The first name that is no field's of this kind by these rules. Of names that rise it is the least.
+-- The first name that isn't that of a field of this kind by these rules. If the names rise, it is the least such name.
 abbrev pub first_unknown : Rules → Kind → List (Text × Text) → Option Text
 first_unknown rules kind pairs = find (λ name. not (is_field rules kind name)) (names pairs)
 
@@ -58,13 +58,13 @@ abbrev pub facts_at : Rules → Kind → Row → Facts
 facts_at rules kind texts =
     record { rules = rules; archival = archives_at kind texts; withdrawal = withdraws_at kind texts }
 
--- A field with this text fails a check of single fields, in an item of these facts.
+-- A field with this text fails a check of single fields, in an item with these facts.
 abbrev pub field_fails : FieldCheck → Facts → Field → Text → Bool
 field_fails FieldCheck.Presence facts field text = is_missing facts field text
 field_fails FieldCheck.Shape facts field text = is_misshapen facts field text
 field_fails FieldCheck.Digits facts field text = has_wrong_digits field text
 
--- The first field by place that fails the check with its text in this list.
+-- The name of the first field by place that fails the check with its text in this list.
 unfoldable pub first_at : Rules → FieldCheck → Kind → Row → Option Text
 first_at rules check kind texts =
     option_map (λ entry. entry.0.0)
@@ -76,7 +76,7 @@ failed_at rules kind texts = option_or (option_map (failed_field 2) (first_at ru
     (option_or (option_map (failed_field 3) (first_at rules FieldCheck.Shape kind texts))
     (option_map (failed_field 4) (first_at rules FieldCheck.Digits kind texts)))
 
--- The row of these texts.
+-- The row with these texts, moments in printed form.
 unfoldable pub printed_at : Kind → Row → Row
 printed_at kind texts = map (λ entry. row_text entry.0.1 entry.1) (zip (row_fields kind) texts)
 

@@ -1,4 +1,4 @@
--- What a row spells by its texts, and which rows are those of records, of relationships and of exceptions.
+-- What the texts of a row read as, and which rows are those of records, of relationships and of exceptions.
 use Rattle.std.specs.Prelude.{◌≡◌, ◌≤◌, ℕ, ℤ, pos, length, Bool, ◌==◌, if◌then◌else◌, Option, None, Some, IsSome, IfSome, IsTrue, unwrap_or}
 use Rattle.std.specs.List.{All}
 use Rattle.lei_code.specs.Code.{IsValid}
@@ -15,12 +15,12 @@ use Rattle.lei_records.specs.Rows.{Row, text_at}
 abbrev pub is_absent : Text → Bool
 is_absent text = length text == 0
 
--- The text, and none where it is absent.
+-- The text, or `None` if it is absent.
 abbrev pub present : Text → Option Text
 present text = if is_absent text then None else Some text
 
--- The moment that the text at a place reads as, in seconds from 1970-01-01T00:00:00Z; that begin of 1970 where it reads
--- as none, as in no row of an item.
+-- The moment that the text at a place reads as, in seconds since 1970-01-01T00:00:00Z. It is 0 if the text reads as no
+-- moment; each moment that an item's row must have reads as one.
 unfoldable pub moment_in : Row → ℕ → ℤ
 moment_in row place = unwrap_or (read_moment (text_at row place)) (pos 0)
 
@@ -28,18 +28,18 @@ moment_in row place = unwrap_or (read_moment (text_at row place)) (pos 0)
 abbrev pub IsPrinted : Text → Type 0
 IsPrinted text = (seconds : ℤ) × (read_moment text ≡ Some seconds) × (text ≡ moment_text seconds)
 
--- The text is one of a list's values.
+-- The text is that of a value of a list.
 abbrev pub IsListed : {V : Type 0} → (Text → Option V) → Text → Type 0
 IsListed {V} value_of text = IsSome (value_of text)
 
--- The text is one to five LEIs, all different, with one space between each and the next.
+-- The text is one to five LEIs, all different, separated by single spaces.
 pub record AreCodes (text : Text) : Type 0 where
   pub few : length (between_spaces text) ≤ 5
   pub valid : All IsValid (between_spaces text)
   pub different : IsTrue (are_different (between_spaces text))
 
 -- The row is that of a record. Each part of it that is more than a text can be read: an LEI by its check digits, a
--- value by its list, and a moment by its printed form. What need not stand may be absent.
+-- value by its list, and a moment by its printed form. A part that isn't needed may be absent.
 pub record IsRow (row : Row) : Type 0 where
   pub places : length row ≡ record_places
   pub lei : IsValid (text_at row lei_place)
@@ -72,7 +72,7 @@ pub record IsRelationRow (row : Row) : Type 0 where
   pub registration : IsSome (relation_registration_of (text_at row registration_place))
   pub manager : IsValid (text_at row relation_manager_place)
 
--- The row is that of an exception. With a withdrawal the reason may be absent.
+-- The row is that of an exception. The reason may be absent, because a withdrawal may lack it.
 pub record IsExceptionRow (row : Row) : Type 0 where
   pub places : length row ≡ exception_places
   pub lei : IsValid (text_at row subject_place)

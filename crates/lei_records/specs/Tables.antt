@@ -24,11 +24,11 @@ use Rattle.lei_records.specs.Spelled.{IsExceptionRow, IsRelationRow, IsRow}
 abbrev pub KeyTexts : Type 0
 KeyTexts = List Text
 
--- Keys stand in byte order, text by text.
+-- Keys are in order text by text, each in byte order.
 abbrev pub key_cmp : KeyTexts → KeyTexts → Ordering
 key_cmp = slice_cmp (slice_cmp nat_cmp)
 
--- Rows under their keys, in the order of these.
+-- Rows under their keys, in the order of the keys.
 abbrev pub Rows : Type 0
 Rows = FinMap key_cmp Row
 
@@ -52,11 +52,11 @@ relation_key start kind end = start ∷ relation_type_text kind ∷ end ∷ []
 abbrev pub exception_key : Lei → ExceptionCategory → KeyTexts
 exception_key lei category = lei ∷ exception_category_text category ∷ []
 
--- The key that a relationship's row has by its texts.
+-- The key of a relationship's row, from its texts.
 abbrev pub relation_key_in : Row → KeyTexts
 relation_key_in row = relation_key (start_in row) (kind_in row) (end_in row)
 
--- The key that an exception's row has by its texts.
+-- The key of an exception's row, from its texts.
 abbrev pub exception_key_in : Row → KeyTexts
 exception_key_in row = exception_key (subject_in row) (exception_category_in row)
 
@@ -66,22 +66,22 @@ row_key (Item.Record row) = RowKey.Rec (lei_in row)
 row_key (Item.Relation row) = RowKey.Rel (start_in row) (kind_in row) (end_in row)
 row_key (Item.Exception item) = RowKey.Exc (subject_in item.0) (exception_category_in item.0)
 
--- ---- puts
+-- ---- changes
 
--- A table with other rows of records.
+-- A table with its records replaced by these rows.
 abbrev pub with_records : Table → Rows → Table
 with_records table rows = record table { records = rows }
 
--- A table with other rows of relationships.
+-- A table with its relationships replaced by these rows.
 abbrev pub with_relations : Table → Rows → Table
 with_relations table rows = record table { relations = rows }
 
--- A table with other rows of exceptions.
+-- A table with its exceptions replaced by these rows.
 abbrev pub with_exceptions : Table → Rows → Table
 with_exceptions table rows = record table { exceptions = rows }
 
--- The table with the item: its row takes the place of the row of its key, or stands as a row of its own. An exception
--- that is a withdrawal removes the row of its key. All other rows stay.
+-- The table after an item is put: its row replaces the row under its key, or is added if there is none. An exception
+-- that is a withdrawal removes the row under its key. All other rows stay.
 abbrev pub put : Table → Item → Table
 put table (Item.Record row) = with_records table (insert table.records (record_key (lei_in row)) row)
 put table (Item.Relation row) = with_relations table (insert table.relations (relation_key_in row) row)
@@ -89,8 +89,8 @@ put table (Item.Exception item) = with_exceptions table
     (if item.1 then remove table.exceptions (exception_key_in item.0)
     else insert table.exceptions (exception_key_in item.0) item.0)
 
--- The table after a write: the item that is written is put, and where none is, the exception of the key is removed. A
--- record and a relationship are never withdrawn.
+-- The table after a write: the item is put or, if there is none, the exception under the key is removed. A record or a
+-- relationship is never withdrawn.
 abbrev pub put_write : Table → RowKey × Option Item → Table
 put_write table (key, Some item) = put table item
 put_write table (RowKey.Exc lei category, None) = with_exceptions table
@@ -120,7 +120,7 @@ record_count table = len table.records
 abbrev pub record_of : Table → Lei → Option RecCell
 record_of table lei = option_map rec_cell (row_at table lei)
 
--- The LEI of the live record that has this authority key, and of the first of them in the order of LEIs.
+-- The LEI of the live record that has this authority key; if there are several, of the first in the order of LEIs.
 abbrev pub holder_of : Table → Text → Text → Option Lei
 holder_of table authority id = option_map lei_in (find (holds authority id) (records_of table))
 
@@ -129,7 +129,7 @@ abbrev pub holds_key : Option (Text × Text) → Row → Bool
 holds_key None row = false
 holds_key (Some key) row = holds key.0 key.1 row
 
--- The LEI of another record that is live and has the row's authority key, and of the first of them in the order of
+-- The LEI of another live record that has the row's authority key; if there are several, of the first in the order of
 -- LEIs.
 abbrev pub other_holder : Table → Row → Option Lei
 other_holder table row =
@@ -149,7 +149,7 @@ relation_row table start kind end = get table.relations (relation_key start kind
 abbrev pub relation_of : Table → Lei → RelationType → Lei → Option RelCell
 relation_of table start kind end = option_map rel_cell (relation_row table start kind end)
 
--- The end of the active relationship of this start and type, and of the first of them in the order of keys.
+-- The end of the active relationship with this start and type; if there are several, of the first in the order of keys.
 abbrev pub active_of : Table → Lei → RelationType → Option Lei
 active_of table start kind = option_map end_in (find (is_active_of start kind) (relations_of table))
 
@@ -165,12 +165,12 @@ exception_row table lei category = get table.exceptions (exception_key lei categ
 abbrev pub has_exception : Table → Lei → ExceptionCategory → Bool
 has_exception table lei category = is_some (exception_row table lei category)
 
--- What a view answers where a cell has this, or is empty.
+-- What a view answers if a cell has this, or is empty.
 abbrev pub seen : {X : Type 0} → Option X → Seen X
 seen (Some x) = Seen.Held x
 seen None = Seen.Empty
 
--- The same of a cell that has nothing but that it is there.
+-- The same for a cell that only says whether there is something.
 abbrev pub seen_fact : Bool → Seen ⊤
 seen_fact true = Seen.Held tt
 seen_fact false = Seen.Empty
@@ -187,7 +187,7 @@ cells_of table = record {
 
 -- ---- sound tables
 
--- Each record's row stands under its own key.
+-- Each record's row is under its own key.
 abbrev pub IsKeyed : Table → Type 0
 IsKeyed table = (key : KeyTexts) (row : Row) → get table.records key ≡ Some row
     → key ≡ record_key (lei_in row)
@@ -202,7 +202,7 @@ AuthorityKeysAreUnique table = (authority id : Text) (a b : Lei) (first second :
 abbrev pub HasRows : Table → Type 0
 HasRows table = (key : KeyTexts) (row : Row) → get table.records key ≡ Some row → IsRow row
 
--- Each relationship's row stands under its own key.
+-- Each relationship's row is under its own key.
 abbrev pub AreRelationsKeyed : Table → Type 0
 AreRelationsKeyed table = (key : KeyTexts) (row : Row) → get table.relations key ≡ Some row
     → key ≡ relation_key_in row
@@ -217,7 +217,7 @@ HasActives table = (start : Lei) (kind : RelationType) (a b : KeyTexts) (first s
     → get table.relations a ≡ Some first → get table.relations b ≡ Some second
     → IsTrue (is_active_of start kind first) → IsTrue (is_active_of start kind second) → a ≡ b
 
--- Each exception's row stands under its own key.
+-- Each exception's row is under its own key.
 abbrev pub AreExceptionsKeyed : Table → Type 0
 AreExceptionsKeyed table = (key : KeyTexts) (row : Row) → get table.exceptions key ≡ Some row
     → key ≡ exception_key_in row
@@ -227,7 +227,7 @@ abbrev pub HasExceptionRows : Table → Type 0
 HasExceptionRows table = (key : KeyTexts) (row : Row) → get table.exceptions key ≡ Some row
     → IsExceptionRow row
 
--- A sound table: each row stands under its own key and is that of a record, a relationship or an exception, as its list
+-- A sound table: each row is under its own key, and is that of a record, a relationship or an exception, as its list
 -- says. No two live records have the same authority key, and no two active relationships the same start and type.
 pub record IsSound (table : Table) : Type 0 where
   pub keyed : IsKeyed table

@@ -1,4 +1,4 @@
--- Walks: from LEI to LEI, where each names at most one next one. This project's profile.
+-- Walks: from LEI to LEI, if each names at most one next LEI. This project's profile.
 use Rattle.std.specs.Prelude.{◌≡◌, ◌≤◌, ℕ, zero, suc, ◌==◌, List, [], ◌∷◌, length, Bool, Option, Some, option_and_then}
 use Rattle.std.specs.List.{list_any}
 use Rattle.std.specs.Option.{option_map_or}
@@ -8,11 +8,11 @@ use Rattle.lei_records.specs.Cells.{successor_in, successors_in}
 use Rattle.lei_records.specs.Rows.{Row}
 use Rattle.lei_records.specs.Tables.{Table, row_at}
 
--- What each LEI names next, if anything.
+-- The LEI that each LEI names next, if any.
 abbrev pub Next : Type 0
 Next = Lei → Option Lei
 
--- The members of a walk behind its start: the first one, and then each that the one before names. At most so many are
+-- The members of a walk after its start: the first one, and then each that the one before it names. At most n are
 -- listed.
 unfoldable pub members : ℕ → Next → Lei → List Lei
 members zero next first = []
@@ -28,7 +28,7 @@ is_long next first = length (members 201 next first) == 201
 
 -- ---- successors
 
--- The first successor that the record of an LEI names, which is the only one that the first rules know.
+-- The first successor that the record of an LEI names, which is the only one by the first rules.
 abbrev pub successor_of : Table → Lei → Option Lei
 successor_of table lei = option_and_then successor_in (row_at table lei)
 
@@ -36,6 +36,6 @@ successor_of table lei = option_and_then successor_in (row_at table lei)
 abbrev pub successors_of : Table → Lei → List Lei
 successors_of table lei = option_map_or successors_in (row_at table lei) []
 
--- Each record of a table names at most one successor, as those do that came by the first rules.
+-- Each record of a table names at most one successor, as records that were accepted by the first rules do.
 abbrev pub NameOne : Table → Type 0
 NameOne table = (lei : Lei) (row : Row) → row_at table lei ≡ Some row → length (successors_in row) ≤ 1

@@ -1,4 +1,4 @@
-//! Why an item is rejected, and how that is told.
+//! Why an item is rejected, and how that is reported.
 ghost use Rattle.std.specs.Prelude.{◌≡◌, Some, option_map};
 ghost use Rattle.lei_records.specs.Checks;
 ghost use Rattle.lei_records.specs.Checks.{IsNumber, check_name, check_text};
@@ -10,10 +10,10 @@ use lei_shapes::RecordStatus;
 use std::fmt;
 use std::marker::Model;
 
-/// Why an item is rejected: the first of its checks that fails. Its number is one that a check has.
+/// Why an item is rejected: the first of its checks that fails. Its number is that of a check.
 #[derive(Debug, PartialEq, Eq, Drop)]
 pub struct Check {
-    /// The check's number, as [`FIELD_UNKNOWN`].
+    /// The check's number, such as [`FIELD_UNKNOWN`].
     pub code: u8,
     pub detail: Detail,
 }
@@ -30,20 +30,20 @@ impl Model for Check {
     ghost inverse = { λ check. record { code = check.number; detail = check.detail } };
 }
 
-/// What a check names.
+/// What a failed check names.
 #[derive(Debug, PartialEq, Eq, Drop)]
 pub enum Detail {
     None,
-    /// A field's name, or another name in its place.
+    /// A field's name, or a name that isn't a field's.
     Field(Text),
-    /// The status of a record that is held.
+    /// The status of a held record.
     Status(RecordStatus),
-    /// A code that stands in the way.
+    /// An LEI that the item conflicts with.
     Code(Lei),
 }
 
 impl Check {
-    /// The check's number and what it is called, as `C05 STATUS_ENTITY`.
+    /// The check's number and name, such as `C05 STATUS_ENTITY`.
     pub fn name(&self) -> &'static str
         ensures { check_name self.now.number ≡ Some result.now }
     {
@@ -52,7 +52,7 @@ impl Check {
 }
 
 impl Detail {
-    /// What is named, as a text: a status and a code by their texts.
+    /// What is named, as a text: a field's name, a status or an LEI.
     pub fn text(&self) -> Option<&str>
         ensures { option_map (λ text. text.now) result ≡ Checks.detail_text self.now }
     {
@@ -77,7 +77,7 @@ impl fmt::Display for Check {
     }
 }
 
-// What the check of a number is called.
+// The name of the check with this number.
 fn name_of(number: u8) -> &'static str
     requires { IsNumber number }
     ensures { check_name number ≡ Some result.now }

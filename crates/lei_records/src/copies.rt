@@ -1,4 +1,4 @@
-//! Items once more, and copies of checks in memory of their own.
+//! Copies of items, which share their texts, and of checks, which have their own memory.
 ghost use Rattle.std.specs.Prelude.{◌≡◌, IfOk};
 
 use crate::check::{Check, Detail};
@@ -7,7 +7,7 @@ use lei_outside::{NoMemory, Text};
 use std::alloc::Global;
 
 impl Item {
-    /// The item once more. It shares its texts, and takes no memory for them.
+    /// A copy of the item. It shares the texts, so no memory is allocated for them.
     pub fn share(&self) -> Result<Item, NoMemory>
         ensures { IfOk result (λ shared. shared ≡ self.now) }
     {
@@ -20,7 +20,7 @@ impl Item {
 }
 
 impl Check {
-    /// The check in memory of its own.
+    /// A copy of the check in its own memory.
     pub fn copy(&self, alloc: Global) -> Result<Check, NoMemory>
         ensures { IfOk result (λ copy. copy ≡ self.now) }
     {
@@ -33,7 +33,7 @@ impl Check {
 }
 
 impl Detail {
-    /// The detail in memory of its own. Only a name takes any.
+    /// A copy of the detail in its own memory. Only a field's name needs any.
     pub fn copy(&self, alloc: Global) -> Result<Detail, NoMemory>
         ensures { IfOk result (λ copy. copy ≡ self.now) }
     {

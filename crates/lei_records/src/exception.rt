@@ -15,8 +15,9 @@ use std::alloc::Global;
 use std::marker::Model;
 use std::sync::Arc;
 
-/// A reporting exception: why an entity reports no parent of a category. Or the withdrawal of one. Clauses see its row,
-/// its four texts in order of place, where an absent field is the empty text, and whether it is a withdrawal.
+/// A reporting exception, which says why an entity reports no parent of a category, or the withdrawal of one. Contracts
+/// see its row and whether it is a withdrawal. The row is its four texts in order of place; an absent field is the
+/// empty text.
 #[derive(Debug, Drop)]
 pub struct ExceptionItem {
     texts: Arc<FieldTexts, Global>,
@@ -65,7 +66,7 @@ impl Eq for ExceptionItem {
 }
 
 impl ExceptionItem {
-    /// The exception with these texts, which move, or its withdrawal. The condition is that they are the row of an
+    /// The exception with these texts, or its withdrawal. The texts are moved into it, and must be the row of an
     /// exception.
     pub fn of(alloc: Global, texts: FieldTexts, withdraws: bool) -> Result<Self, NoMemory>
         requires { IsExceptionRow texts }
@@ -88,7 +89,7 @@ impl ExceptionItem {
         &self.texts
     }
 
-    /// The text of a field, by its place from 1 to 4: the empty text where the field is absent.
+    /// The text of a field, by its place from 1 to 4: the empty text if the field is absent.
     pub fn field(&self, place: u8) -> &str
         requires first { 1 ≤ place }
         requires last { place ≤ exception_places }
@@ -98,7 +99,7 @@ impl ExceptionItem {
         text_at(&self.texts, usize::from(place))
     }
 
-    /// The entity that reports no parent: the field LEI.
+    /// The LEI of the entity that reports no parent: the field LEI.
     pub fn lei(&self) -> Lei
         ensures value { result ≡ Exceptions.subject_in self.now.0 }
         ensures row { IsExceptionRow self.now.0 }
@@ -106,28 +107,28 @@ impl ExceptionItem {
         self.lei
     }
 
-    /// Which parent it doesn't report: the field ExceptionCategory.
+    /// Which parent the entity doesn't report: the field ExceptionCategory.
     pub fn category(&self) -> ExceptionCategory
         ensures { result ≡ Exceptions.exception_category_in self.now.0 }
     {
         self.category
     }
 
-    /// Why it doesn't: the field ExceptionReason.
+    /// Why the entity doesn't report the parent: the field ExceptionReason.
     pub fn reason(&self) -> Option<Reason>
         ensures { result ≡ Exceptions.reason_in self.now.0 }
     {
         self.reason
     }
 
-    /// Whether it takes a held exception out: the field Action is WITHDRAW.
+    /// Whether it withdraws a held exception: the field Action is WITHDRAW.
     pub fn withdraws(&self) -> bool
         ensures { result ≡ self.now.1 }
     {
         self.withdraws
     }
 
-    /// The exception once more. It shares its texts, and takes no memory for them.
+    /// A copy of the exception. It shares the texts, so no memory is allocated for them.
     pub fn share(&self) -> Result<ExceptionItem, NoMemory>
         ensures { IfOk result (λ shared. shared ≡ self.now) }
     {
@@ -153,7 +154,7 @@ fn category_of(texts: &FieldTexts) -> ExceptionCategory
     }
 }
 
-// The reason that the text at its place reads as, and none where the text is absent.
+// The reason that the text at its place reads as, or `None` if the text is absent.
 fn reason_of(texts: &FieldTexts) -> Option<Reason>
     requires { IsExceptionRow texts.now }
     ensures { result ≡ Exceptions.reason_in texts.now }

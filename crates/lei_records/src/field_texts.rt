@@ -1,4 +1,4 @@
-// The texts of a row in one piece of memory.
+//! The texts of a row in one piece of memory.
 ghost use Rattle.std.specs.Prelude.{◌≡◌, ◌==◌, ◌<◌, ◌≤◌, ◌++◌, ◌∷◌, [], codes, length, slice_index_or, take, IfOk, OnOk, OnErr};
 ghost use Rattle.std.proofs.Common.{rules};
 ghost use Rattle.std.specs.Cmp.Rules.{comparing};
@@ -12,12 +12,12 @@ use std::alloc::Global;
 use std::fmt;
 use std::marker::Model;
 
-/// The texts of a row's fields: at most 32, one behind the other in one piece of memory of at most 65,535 bytes.
+/// The texts of a row's fields: at most 32, stored one after another in one piece of memory of at most 65,535 bytes.
 /// Contracts see the list of them, each by its UTF-8 bytes.
 #[derive(Drop)]
 pub struct FieldTexts {
     text: String,
-    // Where each text ends. Those behind the last text say nothing.
+    // The end of each text. The ends past the last text have no meaning.
     ends: [u16; RECORD_PLACES],
     count: u8,
 }
@@ -36,7 +36,7 @@ impl Model for FieldTexts {
 }
 
 impl FieldTexts {
-    /// No texts, with room for so many bytes together.
+    /// No texts yet, with room for this many bytes in total.
     pub fn with_capacity(alloc: Global, bytes: usize) -> Result<Self, NoMemory>
         ensures { IfOk result (λ t. t ≡ []) }
     {
@@ -47,8 +47,8 @@ impl FieldTexts {
         })
     }
 
-    /// Puts a text behind the others. Where they have more than 65,535 bytes then, it is `NoMemory`; an item that
-    /// passed its checks has at most 32 fields of 2,000 bytes.
+    /// Adds a text after the others. The error is also `NoMemory` if the texts would have more than 65,535 bytes in
+    /// total. An item that passed its checks has at most 32 fields of at most 2,000 bytes.
     pub fn push(&mut self, text: &str) -> Result<(), NoMemory>
         requires { length self.old < record_places }
         ensures ok { OnOk result (self.new ≡ self.old ++ text.now ∷ []) }
@@ -62,7 +62,7 @@ impl FieldTexts {
         Ok(())
     }
 
-    /// How many they are.
+    /// The number of texts.
     pub fn len(&self) -> usize
         ensures { result ≡ length self.now }
     {
@@ -101,7 +101,7 @@ impl fmt::Debug for FieldTexts {
     }
 }
 
-// The ends of so many texts.
+// The ends of this many texts.
 fn ends_of(ends: &[u16; RECORD_PLACES], count: u8) -> &[u16]
     requires { count ≤ length ends.now }
     ensures { result.now ≡ take count ends.now }
@@ -109,7 +109,7 @@ fn ends_of(ends: &[u16; RECORD_PLACES], count: u8) -> &[u16]
     &ends[..count as usize]
 }
 
-// The text at this index among those that lie one behind the other.
+// The text at this index among texts that are stored one after another.
 fn piece_at<'a>(text: &'a str, ends: &[u16], index: usize) -> &'a str
     requires ends { AreEnds 0 ends.now text.now }
     requires index { index < length ends.now }
@@ -120,7 +120,7 @@ fn piece_at<'a>(text: &'a str, ends: &[u16], index: usize) -> &'a str
     &text[start..end]
 }
 
-// Where the text at this index begins.
+// The offset at which the text at this index starts.
 fn start_of(ends: &[u16], index: usize) -> u16
     requires { index < length ends.now }
     ensures { result ≡ slice_index_or (0 ∷ ends.now) index 0 }

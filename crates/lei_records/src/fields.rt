@@ -10,7 +10,7 @@ use crate::rules::Rules;
 use crate::tables;
 use lei_shapes::{Shape, fits};
 
-/// The kinds of items. Each has fields of its own.
+/// The kinds of items. Each kind has its own fields.
 #[derive(Clone, Copy, Debug, PartialEq, Eq)]
 pub enum Kind {
     /// A legal entity and its registration.
@@ -24,26 +24,25 @@ pub enum Kind {
 /// What a field holds.
 #[derive(Clone, Copy, Debug, PartialEq, Eq)]
 pub enum Content {
-    /// A text of this shape. It stands in the row.
+    /// A text of this shape. It is in the row.
     Shaped(Shape),
-    /// The LEIs of the entities that followed: one by the first rules, and one to five by the later ones. They stand in
-    /// the row.
+    /// The LEIs of the entities that succeeded this one: one by the first rules, and one to five by the later ones.
+    /// They are in the row.
     Successors,
-    /// What is to be done with an exception: `PUT` or `WITHDRAW`. It stands in no row.
+    /// What is to be done with an exception: `PUT` or `WITHDRAW`. It isn't in the row.
     Action,
 }
 
-/// Where an item needs a field.
+/// When an item needs a field.
 #[derive(Clone, Copy, Debug, PartialEq, Eq)]
 pub enum Need {
     /// In every item of the kind.
     Always,
-    /// In none.
+    /// Never: no item needs it.
     Optional,
-    /// In a record whose registration status is PENDING_ARCHIVAL. In every other one it may not
-    /// stand.
+    /// In a record whose registration status is PENDING_ARCHIVAL. No other record may have the field.
     WherePendingArchival,
-    /// In an exception that is no withdrawal. It may stand in a withdrawal too.
+    /// In an exception that isn't a withdrawal. A withdrawal may have the field too.
     UnlessWithdrawn,
 }
 
@@ -58,7 +57,7 @@ pub struct Facts {
     pub withdrawal: bool,
 }
 
-/// A field's name, what it holds, and where it is needed.
+/// A field's name, what it holds, and when it is needed.
 pub type Field = (&'static str, Content, Need);
 
 impl Kind {
@@ -75,7 +74,7 @@ impl Kind {
         }
     }
 
-    /// How many they are.
+    /// The number of these fields.
     pub fn field_count(self) -> usize
         ensures { result ≡ Fields.field_count self }
     {
@@ -86,7 +85,7 @@ impl Kind {
         }
     }
 
-    /// How many of them, from the first, the rules know.
+    /// How many of these fields, counted from the first, the rules have.
     pub fn known_count(self, rules: Rules) -> usize
         ensures { result ≡ Fields.known_count rules self }
     {
@@ -98,7 +97,7 @@ impl Kind {
         }
     }
 
-    /// How many of them stand in its row.
+    /// How many of these fields, counted from the first, are in the kind's row.
     pub fn row_len(self) -> usize
         ensures { result ≡ Fields.row_len self }
     {
@@ -111,7 +110,7 @@ impl Kind {
 }
 
 impl Content {
-    /// Whether the text is one that the field can hold by these rules.
+    /// Whether the text is one that the field may hold by these rules.
     pub fn fits(self, rules: Rules, text: &str) -> bool
         ensures { result ≡ Fields.fits_content rules self text.now }
     {
@@ -124,7 +123,7 @@ impl Content {
 }
 
 impl Need {
-    /// Whether an item of these facts needs a field of this need.
+    /// Whether an item with these facts needs a field with this need.
     pub fn is_needed(self, facts: Facts) -> bool
         ensures { result ≡ is_needed facts self }
     {
@@ -136,7 +135,7 @@ impl Need {
         }
     }
 
-    /// Whether a field of this need may stand in an item of these facts.
+    /// Whether an item with these facts may have a field with this need.
     pub fn may_stand(self, facts: Facts) -> bool
         ensures { result ≡ may_stand facts self }
     {

@@ -1,4 +1,4 @@
-//! Items as they were sent: names with their texts.
+//! Items: as they were sent, which is names with their texts, and after the checks of their fields.
 use crate::check::Check;
 use crate::exception::ExceptionItem;
 use crate::record::Record;
@@ -7,9 +7,9 @@ use lei_outside::{List, NoMemory, Texts};
 use std::alloc::Global;
 use std::marker::Model;
 
-/// The fields of an item as they were sent: names, each with its text, both UTF-8, in byte order of the names, of which
-/// none stands twice. Names that no item knows and empty texts are kept: the checks of the item decide on them. All lie
-/// in one piece of memory. Contracts see the list of pairs.
+/// The fields of an item as they were sent: names, each with its text, both in UTF-8. They are in byte order of the
+/// names, and no name occurs twice. Names that no item has and empty texts are kept: the checks of the item decide on
+/// them. All are stored in one piece of memory. Contracts see the list of pairs.
 #[derive(Debug, Drop)]
 pub struct Fields {
     // A name, its text, the next name, and so on.
@@ -31,7 +31,7 @@ impl Fields {
     ghost use Rattle.std.specs.Prelude.{◌≡◌, ◌<◌, ◌++◌, ◌∷◌, [], codes, length, slice_index_or, IfOk};
     ghost use Rattle.lei_records.specs.Names.{AreRising};
 
-    /// No field, with room for so many names and texts of so many bytes together.
+    /// No fields yet, with room for this many fields, whose names and texts have this many bytes in total.
     pub fn with_capacity(alloc: Global, fields: usize, bytes: usize) -> Result<Self, NoMemory>
         ensures { IfOk result (λ made. made ≡ []) }
     {
@@ -39,7 +39,7 @@ impl Fields {
         Ok(Fields { texts })
     }
 
-    /// These fields and one more. The condition is that the names rise still.
+    /// These fields and one more, as the last. With its name the names must still rise strictly.
     pub fn with(self, name: &str, text: &str) -> Result<Self, NoMemory>
         requires { AreRising (self ++ (name.now, text.now) ∷ []) }
         ensures { IfOk result (λ made. made ≡ self ++ (name.now, text.now) ∷ []) }
@@ -50,7 +50,7 @@ impl Fields {
         Ok(Fields { texts })
     }
 
-    /// How many they are.
+    /// The number of fields.
     pub fn len(&self) -> usize
         ensures value { result ≡ length self.now }
         ensures rising { AreRising self.now }
@@ -63,7 +63,7 @@ impl Fields {
         requires { index < length self.now }
         ensures { result.now ≡ (slice_index_or self.now index (codes "", codes "")).0 }
     {
-        // So many texts there are, and twice the index is one of them.
+        // The number of texts is even, so twice the index is within range.
         let _count = self.texts.len();
         self.texts.text(2 * index)
     }
@@ -104,7 +104,7 @@ pub enum Item {
     Exception(ExceptionItem),
 }
 
-/// An item after the checks of its fields: what it is, or the first check that fails.
+/// An item after the checks of its fields: the item itself, or the first check that fails.
 #[derive(Debug, PartialEq, Eq, Drop)]
 pub enum Readied {
     Good(Item),

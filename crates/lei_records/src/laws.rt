@@ -9,7 +9,7 @@ ghost use Rattle.lei_records.specs.Fields.{has_name};
 ghost use Rattle.lei_records.specs.Items.{IsRowOf, failed_check, row_of};
 ghost use Rattle.lei_records.specs.Places.{named_places};
 
-/// The places that the definitions speak of are those of the fields that they name.
+/// The places that the definitions use are those of the fields that they name.
 pub fn places_have_their_fields()
     ensures { (kind : Kind) → IsTrue (list_all (has_name kind) (named_places kind)) }
 {}
@@ -20,7 +20,7 @@ pub fn good_items_have_rows()
         → IsRowOf kind (row_of kind pairs) }
 {}
 
-/// A record that passes its checks by the first or the second rules tells of no event.
+/// A record that passes its checks by the first or the second rules has no field of an event.
 pub fn events_come_with_the_third_rules()
     ensures first { (pairs : List (Text × Text)) → failed_check Rules.First Kind.Record pairs ≡ None
         → IsTrue (has_no_event (row_of Kind.Record pairs)) }

@@ -1,6 +1,6 @@
 //! The places of fields in a row, counted from 1, and how many fields a row has.
 
-// Of a record.
+// The number of fields in the row of a record.
 pub const RECORD_PLACES: usize = 32;
 
 // How many of them come before those of an event.
@@ -40,7 +40,7 @@ pub const EVENT_RECORDED: usize = 31;
 
 pub const EVENT_STATUS: usize = 32;
 
-// Of a relationship.
+// The number of fields in the row of a relationship.
 pub const RELATION_PLACES: usize = 11;
 
 pub const START: usize = 1;
@@ -63,7 +63,7 @@ pub const REGISTRATION: usize = 9;
 
 pub const RELATION_MANAGER: usize = 10;
 
-// Of an exception. `Action` stands behind the fields of its row.
+// The number of fields in the row of an exception. `Action` comes after them.
 pub const EXCEPTION_PLACES: usize = 4;
 
 pub const SUBJECT: usize = 1;

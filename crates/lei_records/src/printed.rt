@@ -1,4 +1,4 @@
-//! The texts of a row as they are put together, with the moments that were read on the way.
+//! The texts of a row while it is built, with the moments that were already read from them.
 ghost use Rattle.std.specs.Prelude.{◌≡◌, ◌<◌, ◌≤◌, ◌++◌, ◌∷◌, [], length, IfOk, IfSome, OnOk, Some, option_and_then};
 ghost use Rattle.lei_shapes.specs.Moment.{read_moment};
 ghost use Rattle.lei_records.specs.Places.{record_places};
@@ -17,7 +17,7 @@ use std::marker::Model;
 #[derive(Drop)]
 pub struct Printed {
     texts: FieldTexts,
-    // For a text that was read as a moment, that moment.
+    // For each text that was read as a moment, that moment.
     moments: [Option<Moment>; RECORD_PLACES],
 }
 
@@ -33,7 +33,7 @@ impl Model for Printed {
 }
 
 impl Printed {
-    /// No text, with room for so many bytes together.
+    /// No texts yet, with room for this many bytes in total.
     pub fn with_capacity(alloc: Global, bytes: usize) -> Result<Self, NoMemory>
         ensures { IfOk result (λ printed. printed ≡ []) }
     {
@@ -43,7 +43,7 @@ impl Printed {
         })
     }
 
-    /// Puts a text behind the others, with the moment that it reads as, where that is known.
+    /// Adds a text after the others, with the moment that it reads as, if that is known.
     pub fn push(&mut self, text: &str, moment: Option<Moment>) -> Result<(), NoMemory>
         requires room { length self.old < record_places }
         requires read { IfSome moment (λ m. read_moment text.now ≡ Some m) }
@@ -55,21 +55,21 @@ impl Printed {
         Ok(())
     }
 
-    /// The texts, which are seen as they are.
+    /// The texts, without the moments.
     pub fn texts(&self) -> &FieldTexts
         ensures { result.now ≡ self.now }
     {
         &self.texts
     }
 
-    /// The texts alone.
+    /// The same, with the texts moved out.
     pub fn into_texts(self) -> FieldTexts
         ensures { result ≡ self }
     {
         self.texts
     }
 
-    /// The moment that the text at a place reads as.
+    /// The moment that the text at a place, counted from 1, reads as.
     pub fn moment(&self, place: usize) -> Moment
         requires first { 1 ≤ place }
         requires last { place ≤ length self.now }
@@ -82,7 +82,7 @@ impl Printed {
         }
     }
 
-    /// The same where the text may be absent.
+    /// The same for a text that may be absent: `None` if it is.
     pub fn present_moment(&self, place: usize) -> Option<Moment>
         requires first { 1 ≤ place }
         requires last { place ≤ length self.now }
@@ -97,7 +97,7 @@ impl Printed {
         }
     }
 
-    // The moment of the text at a place, where it was read on the way.
+    // The moment of the text at a place, if it was already read.
     fn read_at(&self, place: usize) -> Option<Moment>
         requires first { 1 ≤ place }
         requires last { place ≤ length self.now }

@@ -33,15 +33,15 @@ use lei_outside::{NoMemory, Text};
 use lei_shapes::{Moment, Shape, cut_at_space, is_code};
 use std::alloc::Global;
 
-/// Asks the checks of an item's fields by the newest rules, as [`ready_by`] does.
+/// Checks an item's fields by the newest rules, as [`ready_by`] does.
 pub fn ready(alloc: Global, raw: &RawItem) -> Result<Readied, NoMemory>
     ensures { IfOk result (λ item. item ≡ Items.ready newest raw.now) }
 {
     ready_by(alloc, 3, raw)
 }
 
-/// Asks the checks of an item's fields by the rules of this number, in order of their numbers, up to the first that
-/// fails. Each name is looked up once, and each text of a row is copied once.
+/// Runs the checks of an item's fields by the rules with this number, in order of the checks' numbers, up to the first
+/// that fails. Each name is looked up once, and each text of a row is copied once.
 pub fn ready_by(alloc: Global, rules: u16, raw: &RawItem) -> Result<Readied, NoMemory>
     requires first { 1 ≤ rules }
     requires last { rules ≤ 3 }
@@ -55,7 +55,7 @@ pub fn ready_by(alloc: Global, rules: u16, raw: &RawItem) -> Result<Readied, NoM
     }
 }
 
-// C01, and then the checks after it.
+// Runs C01, and then the checks after it.
 #[tactic(auto, unfolding(crate::specs::Items::failed_check))]
 fn by_names(alloc: Global, rules: Rules, kind: Kind, fields: &Fields) -> Result<Readied, NoMemory>
     ensures { IfOk result (λ item. item ≡ ready_as rules kind fields.now) }
@@ -68,7 +68,7 @@ fn by_names(alloc: Global, rules: Rules, kind: Kind, fields: &Fields) -> Result<
     }
 }
 
-// C02, and then the checks after it.
+// Runs C02, and then the checks after it.
 #[tactic(auto, unfolding(crate::specs::Sheets::failed_at))]
 fn by_presence(alloc: Global, rules: Rules, kind: Kind, texts: &[&str]) -> Result<Readied, NoMemory>
     requires { length texts.now ≡ field_count kind }
@@ -81,7 +81,7 @@ fn by_presence(alloc: Global, rules: Rules, kind: Kind, texts: &[&str]) -> Resul
     }
 }
 
-// C03, and then the check after it.
+// Runs C03, and then the check after it.
 #[tactic(auto, unfolding(crate::specs::Sheets::failed_at))]
 fn by_shapes(alloc: Global, rules: Rules, kind: Kind, texts: &[&str]) -> Result<Readied, NoMemory>
     requires places { length texts.now ≡ field_count kind }
@@ -96,7 +96,7 @@ fn by_shapes(alloc: Global, rules: Rules, kind: Kind, texts: &[&str]) -> Result<
     }
 }
 
-// C04, and then the item.
+// Runs C04, and then makes the item.
 #[tactic(auto, unfolding(crate::specs::Sheets::failed_at))]
 fn by_digits(
     alloc: Global,
@@ -144,7 +144,7 @@ fn good(
     Ok(Readied::Good(item_of(alloc, kind, withdraws, row)?))
 }
 
-// The item of a kind with this row. Of an exception it is said whether it is a withdrawal.
+// The item of a kind with this row. `withdraws` is used only if it is an exception.
 fn item_of(alloc: Global, kind: Kind, withdraws: bool, row: Printed) -> Result<Item, NoMemory>
     requires { IsRowOf kind row }
     ensures { IfOk result (λ item. item ≡ Items.item_of kind withdraws row) }
@@ -165,13 +165,13 @@ fn item_of(alloc: Global, kind: Kind, withdraws: bool, row: Printed) -> Result<I
 pub enum FieldCheck {
     /// A needed field is absent.
     Presence,
-    /// A field stands, and has another shape or may not stand there.
+    /// A field is present, and has another shape or may not be present.
     Shape,
-    /// A code has wrong check digits.
+    /// An LEI has wrong check digits.
     Digits,
 }
 
-// The first field that fails the check.
+// The name of the first field that fails the check.
 #[tactic(auto, unfolding(crate::specs::Sheets::first_at))]
 fn first_failing(
     rules: Rules,
@@ -234,7 +234,7 @@ fn fails(check: FieldCheck, facts: Facts, field: &Field, text: &str) -> bool
     }
 }
 
-// Whether a code in the text of a field has wrong check digits.
+// Whether an LEI in the text of a field has wrong check digits.
 fn has_wrong_digits(content: Content, text: &str) -> bool
     ensures { result ≡ list_any Items.has_other_remainder (codes_in content text.now) }
 {
@@ -251,7 +251,7 @@ fn has_other_remainder(text: &[u8]) -> bool
     is_code(text) && Lei::read(text).is_err()
 }
 
-// Whether one of the texts between the spaces of a text has.
+// Whether one of the texts between the spaces of a text has wrong check digits.
 fn one_has_other_remainder(text: &[u8]) -> bool
     ensures { result ≡ list_any Items.has_other_remainder (between_spaces text.now) }
 {
@@ -266,15 +266,15 @@ fn one_has_other_remainder(text: &[u8]) -> bool
     false
 }
 
-// A row as far as its fields have their shapes, and the first field that hasn't.
+// A row up to the first field that lacks its shape, and the name of that field, if there is one.
 #[derive(Drop)]
 struct Shaped {
     row: Printed,
     misshapen: Option<&'static str>,
 }
 
-// C03 of each field, and the texts of the row: each a copy or, of a moment, its printed form. So each text is read
-// once.
+// Runs C03 for each field, and builds the texts of the row: each is a copy or, for a moment, its printed form. So each
+// text is read once.
 #[tactic(auto, unfolding(crate::specs::Sheets::first_at, crate::specs::Sheets::printed_at))]
 fn shaped_row(alloc: Global, rules: Rules, kind: Kind, texts: &[&str]) -> Result<Shaped, NoMemory>
     requires { length texts.now ≡ field_count kind }
@@ -298,14 +298,14 @@ fn shaped_row(alloc: Global, rules: Rules, kind: Kind, texts: &[&str]) -> Result
     Ok(Shaped { row, misshapen })
 }
 
-// How many bytes the texts have in a row.
+// The number of bytes of the texts in a row.
 fn size_of(table: &[Field], texts: &[&str]) -> usize {
     table.iter().zip(texts).fold(0usize, |size, (field, text)| {
         size.saturating_add(form_len(field.1, text))
     })
 }
 
-// How many bytes the text of a field has in a row, where it has the field's shape: a moment's printed form has 20.
+// The number of bytes of a field's text in a row, if the text has the field's shape. A moment's printed form has 20.
 fn form_len(content: Content, text: &str) -> usize {
     match content {
         Content::Shaped(Shape::Moment) if !text.is_empty() => 20,
@@ -314,7 +314,8 @@ fn form_len(content: Content, text: &str) -> usize {
     }
 }
 
-// Whether the text of a field has its shape. Where it has, and stands in a row, it is put behind the others.
+// Returns whether the text of a field has the field's shape. If it has, and the field is in the row, it is added after
+// the others.
 fn place_text(
     row: &mut Printed,
     stands: bool,
@@ -334,7 +335,8 @@ fn place_text(
     Ok(!fails(FieldCheck::Shape, facts, field, text))
 }
 
-// Puts the text of a field, as a row has it, behind the others where it has the field's shape, and says whether it has.
+// Adds the text of a field, in its form for a row, after the others if it has the field's shape. Returns whether it
+// has.
 fn push_fitting(
     row: &mut Printed,
     facts: Facts,
@@ -361,7 +363,7 @@ fn push_fitting(
     }
 }
 
-// The same of the text of a moment, where it may stand.
+// The same for the text of a moment, which is added only if the item may have the field.
 fn push_moment(row: &mut Printed, may_stand: bool, text: &str) -> Result<bool, NoMemory>
     requires { length row.old < record_places }
     ensures fits { IfOk result (λ fits. fits ≡ (is_some (read_moment text.now) && may_stand)) }
@@ -377,7 +379,7 @@ fn push_moment(row: &mut Printed, may_stand: bool, text: &str) -> Result<bool, N
     Ok(may_stand)
 }
 
-// Puts the printed form of a moment behind the others, which is the text where there is no other.
+// Adds the printed form of a moment after the others. It is the text itself if there is no other form.
 fn push_form(
     row: &mut Printed,
     moment: Moment,

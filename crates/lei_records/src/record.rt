@@ -1,4 +1,4 @@
-//! Records.
+//! Records of legal entities.
 ghost use Rattle.std.specs.Prelude.{◌≡◌, ◌≤◌, IfOk};
 ghost use Rattle.lei_records.specs.Cells;
 ghost use Rattle.lei_records.specs.Places.{record_places};
@@ -17,8 +17,8 @@ use std::alloc::Global;
 use std::marker::Model;
 use std::sync::Arc;
 
-/// A record of the register: a legal entity and its registration. Clauses see its row: its 32 texts in order of
-/// place, where an absent field is the empty text and a moment stands in printed form.
+/// A record of the register: a legal entity and its registration. Contracts see its row: its 32 texts in order of
+/// place. An absent field is the empty text, and a moment is in printed form.
 #[derive(Debug, Drop)]
 pub struct Record {
     texts: Arc<FieldTexts, Global>,
@@ -71,7 +71,7 @@ impl Eq for Record {
 }
 
 impl Record {
-    /// The record with these texts, which move. The condition is that they are the row of a record.
+    /// The record with these texts, which are moved into it. They must be the row of a record.
     pub(crate) fn of(alloc: Global, row: Printed) -> Result<Self, NoMemory>
         requires { IsRow row }
         ensures { IfOk result (λ made. made ≡ row) }
@@ -101,7 +101,7 @@ impl Record {
         &self.texts
     }
 
-    /// The text of a field, by its place from 1 to 32: the empty text where the field is absent.
+    /// The text of a field, by its place from 1 to 32: the empty text if the field is absent.
     pub fn field(&self, place: u8) -> &str
         requires first { 1 ≤ place }
         requires last { place ≤ record_places }
@@ -111,7 +111,7 @@ impl Record {
         text_at(&self.texts, usize::from(place))
     }
 
-    /// The entity's code: the field LEI.
+    /// The entity's LEI: the field LEI.
     pub fn lei(&self) -> Lei
         ensures value { result ≡ Cells.lei_in self.now }
         ensures row { IsRow self.now }
@@ -133,7 +133,7 @@ impl Record {
         self.entity_status
     }
 
-    /// What kind of entity it is: the field Entity.EntityCategory.
+    /// The kind of entity: the field Entity.EntityCategory.
     pub fn category(&self) -> Category
         ensures { result ≡ Cells.category_in self.now }
     {
@@ -147,8 +147,8 @@ impl Record {
         text_at(&self.texts, places::AUTHORITY)
     }
 
-    /// The authority's id of the entity: the field Entity.RegistrationAuthority.RegistrationAuthorityEntityID. The
-    /// empty text where it is absent.
+    /// The authority's id for the entity: the field Entity.RegistrationAuthority.RegistrationAuthorityEntityID. It is
+    /// the empty text if the field is absent.
     pub fn authority_id(&self) -> &str
         ensures { result.now ≡ Cells.authority_id_in self.now }
     {
@@ -162,42 +162,42 @@ impl Record {
         self.manager
     }
 
-    /// The entities that followed this one, at most five: the field Entity.SuccessorEntity.1.SuccessorLEI.
+    /// The entities that succeeded this one, at most five: the field Entity.SuccessorEntity.1.SuccessorLEI.
     pub fn successors(&self) -> Successors
         ensures { result ≡ Cells.successors_in self.now }
     {
         self.successors
     }
 
-    /// The first of them, which is the only one that the first rules know.
+    /// The first of them, which is the only one by the first rules.
     pub fn successor(&self) -> Option<Lei>
         ensures { result ≡ Cells.successor_in self.now }
     {
         self.successors.first()
     }
 
-    /// The issuer that the record is handed over to: the field Register.TransferTo.
+    /// The issuer that the record is to be transferred to: the field Register.TransferTo.
     pub fn transfer_to(&self) -> Option<Lei>
         ensures { result ≡ Cells.receiver_in self.now }
     {
         self.transfer_to
     }
 
-    /// When it was first registered: the field Registration.InitialRegistrationDate.
+    /// When the record was first registered: the field Registration.InitialRegistrationDate.
     pub fn initial(&self) -> Moment
         ensures { result ≡ Cells.initial_in self.now }
     {
         self.initial
     }
 
-    /// When it was last changed: the field Registration.LastUpdateDate.
+    /// When the record was last changed: the field Registration.LastUpdateDate.
     pub fn updated(&self) -> Moment
         ensures { result ≡ Cells.updated_in self.now }
     {
         self.updated
     }
 
-    /// When its registration is to be renewed: the field Registration.NextRenewalDate.
+    /// When the registration is to be renewed: the field Registration.NextRenewalDate.
     pub fn renewal(&self) -> Moment
         ensures { result ≡ Cells.renewal_in self.now }
     {
@@ -222,7 +222,7 @@ impl Record {
         EventType::read(text)
     }
 
-    /// From when on that event has effect: the field Entity.Event.1.EffectiveDate.
+    /// When that event takes effect: the field Entity.Event.1.EffectiveDate.
     pub fn event_effective(&self) -> Option<Moment>
         ensures { result ≡ Cells.event_effective_in self.now }
     {
@@ -247,7 +247,7 @@ impl Record {
         EventStatus::read(text)
     }
 
-    /// The record once more. It shares its texts, and takes no memory for them.
+    /// A copy of the record. It shares the texts, so no memory is allocated for them.
     pub fn share(&self) -> Result<Record, NoMemory>
         ensures { IfOk result (λ shared. shared ≡ self.now) }
     {

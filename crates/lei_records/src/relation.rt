@@ -1,4 +1,4 @@
-//! Relationships.
+//! Relationships between entities.
 ghost use Rattle.std.specs.Prelude.{◌≡◌, ◌≤◌, IfOk};
 ghost use Rattle.lei_records.specs.Places.{relation_places};
 ghost use Rattle.lei_records.specs.Relations;
@@ -16,8 +16,8 @@ use std::alloc::Global;
 use std::marker::Model;
 use std::sync::Arc;
 
-/// A relationship of the register: how one entity is related to another. Clauses see its row: its 11 texts in order
-/// of place, where an absent field is the empty text and a moment stands in printed form.
+/// A relationship of the register: how one entity is related to another. Contracts see its row: its 11 texts in order
+/// of place. An absent field is the empty text, and a moment is in printed form.
 #[derive(Debug, Drop)]
 pub struct Relation {
     texts: Arc<FieldTexts, Global>,
@@ -69,7 +69,7 @@ impl Eq for Relation {
 }
 
 impl Relation {
-    /// The relationship with these texts, which move. The condition is that they are the row of a relationship.
+    /// The relationship with these texts, which are moved into it. They must be the row of a relationship.
     pub(crate) fn of(alloc: Global, row: Printed) -> Result<Self, NoMemory>
         requires { IsRelationRow row }
         ensures { IfOk result (λ made. made ≡ row) }
@@ -98,7 +98,7 @@ impl Relation {
         &self.texts
     }
 
-    /// The text of a field, by its place from 1 to 11: the empty text where the field is absent.
+    /// The text of a field, by its place from 1 to 11: the empty text if the field is absent.
     pub fn field(&self, place: u8) -> &str
         requires first { 1 ≤ place }
         requires last { place ≤ relation_places }
@@ -108,7 +108,7 @@ impl Relation {
         text_at(&self.texts, usize::from(place))
     }
 
-    /// The entity that it starts at: the field Relationship.StartNode.
+    /// The LEI of the entity that it starts at: the field Relationship.StartNode.
     pub fn start(&self) -> Lei
         ensures value { result ≡ Relations.start_in self.now }
         ensures row { IsRelationRow self.now }
@@ -123,7 +123,7 @@ impl Relation {
         self.kind
     }
 
-    /// The entity that it ends at: the field Relationship.EndNode.
+    /// The LEI of the entity that it ends at: the field Relationship.EndNode.
     pub fn end(&self) -> Lei
         ensures { result ≡ Relations.end_in self.now }
     {
@@ -137,21 +137,21 @@ impl Relation {
         self.status
     }
 
-    /// The same as a yes or no.
+    /// Whether that status is ACTIVE.
     pub fn is_active(&self) -> bool
         ensures { result ≡ Relations.is_active self.now }
     {
         is_active_status(self.status)
     }
 
-    /// When the relationship began: the field Relationship.StartDate.
+    /// When the relationship started: the field Relationship.StartDate.
     pub fn start_date(&self) -> Moment
         ensures { result ≡ Relations.started_in self.now }
     {
         self.start_date
     }
 
-    /// When it ended: the field Relationship.EndDate.
+    /// When the relationship ended: the field Relationship.EndDate.
     pub fn end_date(&self) -> Option<Moment>
         ensures { result ≡ Relations.ended_in self.now }
     {
@@ -186,7 +186,7 @@ impl Relation {
         self.manager
     }
 
-    /// The relationship once more. It shares its texts, and takes no memory for them.
+    /// A copy of the relationship. It shares the texts, so no memory is allocated for them.
     pub fn share(&self) -> Result<Relation, NoMemory>
         ensures { IfOk result (λ shared. shared ≡ self.now) }
     {

@@ -10,12 +10,12 @@ pub enum Rules {
     First,
     /// A record names up to five successors.
     Second,
-    /// A record names up to five successors, and may tell of an event.
+    /// A record names up to five successors, and may have the fields of an event.
     Third,
 }
 
 impl Rules {
-    /// The rules of this number.
+    /// The rules with this number.
     pub fn numbered(number: u16) -> Rules
         requires first { 1 ≤ number }
         requires last { number ≤ 3 }

@@ -11,16 +11,17 @@ use crate::places::RECORD_PLACES;
 use crate::rules::Rules;
 use crate::tables;
 
-// What an item has under the names of fields, and the name that it should not have.
+// The texts of an item's fields, and the first name that the item shouldn't have.
 #[derive(Drop)]
 pub struct Sheet<'a> {
-    // The texts of the fields in order of place: the empty text where a field is absent, and behind the last field.
+    // The texts of the fields in order of place: the empty text if a field is absent, and past the last field.
     pub texts: [&'a str; RECORD_PLACES],
-    // The first name that is no field's by the rules.
+    // The first name that isn't a field's name by the rules.
     pub unknown: Option<&'a str>,
 }
 
-// Puts each text at the place of its name. From the last field to the first, so that the first stands.
+// Puts each text at the place of its name. It goes from the last field to the first, so that the first text under a
+// name and the first unknown name are kept.
 pub fn sheet_of(rules: Rules, kind: Kind, fields: &Fields) -> Sheet<'_>
     ensures texts { take (field_count kind) (read_texts result.texts) ≡ texts_of kind fields.now }
     ensures unknown { option_copied result.unknown ≡ first_unknown rules kind fields.now }
@@ -43,7 +44,7 @@ pub fn sheet_of(rules: Rules, kind: Kind, fields: &Fields) -> Sheet<'_>
     Sheet { texts, unknown }
 }
 
-// The name of the field at an index where the rules don't know that field yet, and else what was found before.
+// The name of the field at this index if the rules don't have that field yet, and otherwise what was found before.
 fn or_later<'a>(
     rules: Rules,
     kind: Kind,
@@ -61,8 +62,8 @@ fn or_later<'a>(
     }
 }
 
-// The index of the field with this name. It is looked for first at an index that is likely, and at the one whose name
-// comes before in byte order.
+// The index of the field with this name. The search tries a likely index first, then the index of the name that comes
+// right before in byte order, and then all.
 fn index_of(kind: Kind, name: &str, near: usize) -> Option<usize>
     ensures known { is_some result ≡ has_field kind name.now }
     ensures index { IfSome result
@@ -90,14 +91,14 @@ fn is_at(kind: Kind, name: &str, index: usize) -> bool
     index < table.len() && is_same(table[index].0, name)
 }
 
-// Whether two names are one, compared many bytes at a time.
+// Whether two names are equal. They are compared as bytes, many at a time.
 fn is_same(one: &str, other: &str) -> bool
     ensures { IsTrue result ↔ (one.now ≡ other.now) }
 {
     one.as_bytes() == other.as_bytes()
 }
 
-// The index of the field with this name, looked for among all.
+// The index of the field with this name, searched for among all fields.
 fn search(kind: Kind, name: &str) -> Option<usize>
     ensures known { is_some result ≡ has_field kind name.now }
     ensures index { IfSome result
@@ -113,7 +114,8 @@ fn search(kind: Kind, name: &str) -> Option<usize>
     None
 }
 
-// The index of the field whose name comes before that of this index in byte order, or some index where none does.
+// The index of the field whose name comes right before that of this index in byte order, or some index if there is
+// none.
 fn index_before(kind: Kind, index: usize) -> usize {
     let before: &[u8] = match kind {
         Kind::Record => &tables::record::BEFORE,

@@ -1,19 +1,19 @@
-//! The successors of a record: up to five LEIs in place, so that a cell that has them stays `Copy`.
+//! The successors of a record: up to five LEIs in an array, so that a cell that has them stays `Copy`.
 ghost use Rattle.std.specs.Prelude.{◌≡◌, ◌==◌, ◌<◌, ◌++◌, ◌∷◌, [], length, slice_get};
 ghost use Rattle.lei_records.specs.SuccessorLists.{filler, most_successors};
 
 use lei_code::Lei;
 use std::marker::Model;
 
-// How many successors a record names at most.
+// The most successors that a record may name.
 const MOST_SUCCESSORS: usize = 5;
 
-/// The entities that followed one, in the order in which its record names them: at most five LEIs. Contracts see the
+/// The entities that succeeded one, in the order in which its record names them: at most five LEIs. Contracts see the
 /// list of them.
 #[derive(Clone, Copy, Debug, PartialEq, Eq)]
 pub struct Successors {
     count: u8,
-    // Those past the count aren't read: each is the filler.
+    // The LEIs past the count aren't read: each is the filler.
     codes: [Lei; MOST_SUCCESSORS],
 }
 
@@ -44,7 +44,7 @@ impl Successors {
         }
     }
 
-    /// These and one more, as the last.
+    /// These LEIs and one more, as the last.
     pub fn with(self, lei: Lei) -> Self
         requires { length self < most_successors }
         ensures { result ≡ self ++ lei ∷ [] }
@@ -57,7 +57,7 @@ impl Successors {
         }
     }
 
-    /// How many they are.
+    /// The number of LEIs.
     pub fn len(&self) -> usize
         ensures { result ≡ length self.now }
     {
@@ -71,14 +71,14 @@ impl Successors {
         self.count == 0
     }
 
-    /// They as a slice.
+    /// The LEIs as a slice, in order.
     pub fn as_slice(&self) -> &[Lei]
         ensures { result.now ≡ self.now }
     {
         &self.codes[..usize::from(self.count)]
     }
 
-    /// The first of them.
+    /// The first LEI.
     pub fn first(&self) -> Option<Lei>
         ensures { result ≡ slice_get self.now 0 }
     {
@@ -86,7 +86,7 @@ impl Successors {
     }
 }
 
-// The LEI at the places past the count.
+// The LEI at the indexes past the count.
 #[tactic(auto, unfolding(lei_code::specs::Fault::fault_of, lei_code::specs::Fault::first_wrong, lei_code::specs::Number::number))]
 fn filler() -> Lei
     ensures { result ≡ filler }

@@ -1,4 +1,4 @@
-//! What the texts of a row spell, by place.
+//! The values that the texts of a row read as, by place.
 ghost use Rattle.std.specs.Prelude.{◌≡◌, ◌≤◌, length, IfSome, option_and_then};
 ghost use Rattle.lei_code.specs.Code.{IsValid};
 ghost use Rattle.lei_shapes.specs.Moment.{read_moment};
@@ -13,7 +13,7 @@ use crate::successors::Successors;
 use lei_code::Lei;
 use lei_shapes::{Moment, cut_at_space};
 
-// The text at a place, places counted from 1.
+// The text at a place, counted from 1.
 pub fn text_at(texts: &FieldTexts, place: usize) -> &str
     requires first { 1 ≤ place }
     requires last { place ≤ length texts.now }
@@ -22,7 +22,7 @@ pub fn text_at(texts: &FieldTexts, place: usize) -> &str
     texts.text(place - 1)
 }
 
-// The code that the text at a place is.
+// The LEI that the text at a place reads as.
 pub fn code_at(texts: &FieldTexts, place: usize) -> Lei
     requires first { 1 ≤ place }
     requires last { place ≤ length texts.now }
@@ -35,7 +35,7 @@ pub fn code_at(texts: &FieldTexts, place: usize) -> Lei
     }
 }
 
-// The same where the text may be absent.
+// The same for a text that may be absent: `None` if it is.
 pub fn present_code_at(texts: &FieldTexts, place: usize) -> Option<Lei>
     requires first { 1 ≤ place }
     requires last { place ≤ length texts.now }
@@ -48,7 +48,7 @@ pub fn present_code_at(texts: &FieldTexts, place: usize) -> Option<Lei>
     Some(code_at(texts, place))
 }
 
-// The codes between the spaces of the text at a place. There are none where the text is absent.
+// The LEIs between the spaces of the text of the successor field. There are none if the text is absent.
 #[tactic(auto, unfolding(crate::specs::Cells::successors_in))]
 pub fn successors_at(texts: &FieldTexts) -> Successors
     requires row { IsRow texts.now }
@@ -61,7 +61,7 @@ pub fn successors_at(texts: &FieldTexts) -> Successors
     codes_in(text.as_bytes())
 }
 
-// The codes between the spaces of a text.
+// The LEIs between the spaces of a text.
 fn codes_in(text: &[u8]) -> Successors
     requires { AreCodes text.now }
     ensures { result ≡ between_spaces text.now }
@@ -79,7 +79,7 @@ fn codes_in(text: &[u8]) -> Successors
     codes
 }
 
-// The moment that the text at a place reads as, and none where the text is absent.
+// The moment that the text at a place reads as, or `None` if the text is absent.
 pub fn present_moment_at(texts: &FieldTexts, place: usize) -> Option<Moment>
     requires first { 1 ≤ place }
     requires last { place ≤ length texts.now }

@@ -1,4 +1,4 @@
-//! What the rules ask of a table: cells, and a view that answers them.
+//! What the rules need of a table: cells, and a view that answers for them.
 ghost use Rattle.std.specs.Prelude.{◌≡◌};
 ghost use Rattle.lei_records.specs.Cells.{Cells, rec_cell};
 ghost use Rattle.lei_records.specs.Relations.{rel_cell};
@@ -14,18 +14,18 @@ use lei_shapes::{
     RelationType,
 };
 
-/// What a view answers of a cell.
+/// A view's answer for a cell.
 #[derive(Clone, Copy, Debug, PartialEq, Eq)]
 pub enum Seen<T> {
     /// The cell has this.
     Held(T),
-    /// The cell is there and has nothing.
+    /// The view has the cell, and the cell is empty.
     Empty,
-    /// The view doesn't know the cell.
+    /// The view lacks the cell.
     Missing,
 }
 
-/// What the rules ask of a record that is held.
+/// What the rules need of a held record.
 #[derive(Clone, Copy, Debug, PartialEq, Eq)]
 pub struct RecCell {
     pub status: RecordStatus,
@@ -37,7 +37,7 @@ pub struct RecCell {
     pub successors: Successors,
 }
 
-/// What the rules ask of a relationship that is held.
+/// What the rules need of a held relationship.
 #[derive(Clone, Copy, Debug, PartialEq, Eq)]
 pub struct RelCell {
     pub status: RelationStatus,
@@ -49,9 +49,9 @@ pub struct RelCell {
 pub enum RowKey {
     /// The record of an entity.
     Rec(Lei),
-    /// The relationship of a start, a type and an end.
+    /// The relationship with this start, type and end.
     Rel(Lei, RelationType, Lei),
-    /// The exception of an entity and a category.
+    /// The exception with this LEI and category.
     Exc(Lei, ExceptionCategory),
 }
 
@@ -60,36 +60,35 @@ pub enum RowKey {
 pub enum CellKey {
     /// The record of an entity.
     Rec(Lei),
-    /// The relationship of a start, a type and an end.
+    /// The relationship with this start, type and end.
     Rel(Lei, RelationType, Lei),
-    /// The exception of an entity and a category.
+    /// The exception with this LEI and category.
     Exc(Lei, ExceptionCategory),
-    /// The live record that has an authority key: a registration authority and its id of the
-    /// entity.
+    /// The live record that has an authority key: a registration authority and its id for the entity.
     Key(Text, Text),
-    /// The active relationship of a start and a type.
+    /// The active relationship with this start and type.
     Act(Lei, RelationType),
 }
 
-/// What was read of a cell: `None` is an empty one, and so is `false` of an exception.
+/// What was read from a cell. An empty cell is `None`, or `false` if it is that of an exception.
 #[derive(Clone, Copy, Debug, PartialEq, Eq)]
 pub enum CellSeen {
     Rec(Option<RecCell>),
     Rel(Option<RelCell>),
     Exc(bool),
     Key(Option<Lei>),
-    /// The end of the relationship.
+    /// The end of the active relationship.
     Act(Option<Lei>),
 }
 
-/// What accepted items do to a table, in the order of their acceptance: the key of each with its
-/// item, and with `None` for a withdrawal.
+/// What accepted items do to a table, in order of acceptance: the key of each with its item, or with `None` for a
+/// withdrawal.
 pub type Writes = List<(RowKey, Option<Item>)>;
 
-/// Cells that were read, with what they had.
+/// The cells that were read, each with what it had.
 pub type Reads = List<(CellKey, CellSeen)>;
 
-/// Something that answers the cells of a table, or of a part of it.
+/// Something that answers for the cells of a table, or of a part of one.
 pub trait View {
     /// What it answers for each cell.
     ghost cells: { Self → Cells };
@@ -98,25 +97,25 @@ pub trait View {
     fn record_cell(&self, lei: &Lei) -> Seen<RecCell>
         ensures { result ≡ (cells self.now).record_cell lei.now };
 
-    /// The live record that has an authority key.
+    /// The LEI of the live record that has an authority key.
     fn holder(&self, authority: &str, id: &str) -> Seen<Lei>
         ensures { result ≡ (cells self.now).holder authority.now id.now };
 
-    /// The relationship of a start, a type and an end.
+    /// The relationship with this start, type and end.
     fn relation(&self, start: &Lei, kind: RelationType, end: &Lei) -> Seen<RelCell>
         ensures { result ≡ (cells self.now).relation start.now kind end.now };
 
-    /// The end of the active relationship of a start and a type.
+    /// The end of the active relationship with this start and type.
     fn active(&self, start: &Lei, kind: RelationType) -> Seen<Lei>
         ensures { result ≡ (cells self.now).active start.now kind };
 
-    /// Whether there is an exception of an entity and a category.
+    /// Whether there is an exception with this LEI and category.
     fn exception(&self, lei: &Lei, category: ExceptionCategory) -> Seen<()>
         ensures { result ≡ (cells self.now).exception lei.now category };
 }
 
 impl Record {
-    /// What the rules ask of it.
+    /// What the rules need of it.
     pub fn cell(&self) -> RecCell
         ensures { result ≡ rec_cell self.now }
     {
@@ -133,7 +132,7 @@ impl Record {
 }
 
 impl Relation {
-    /// What the rules ask of it.
+    /// What the rules need of it.
     pub fn cell(&self) -> RelCell
         ensures { result ≡ rel_cell self.now }
     {

@@ -1,4 +1,4 @@
--- Where nothing fails and no memory is wanting, all is done.
+-- If nothing fails and memory doesn't run out, everything is done.
 use Rattle.std.proofs.Common.{◌≡◌, ◌≢◌, ◌⊎◌, ◌<◌, ◌≤◌, ℕ, Result, Ok, Err, refl, List, ◌++◌, length, Option, Some, None, Contains, unwrap_or, inl, inr, ap, sym, subst, ◌∙◌, arith, length-append}
 use Rattle.std.proofs.lemmas.List.{append-nil}
 use Rattle.std.specs.Str.Lines.{lines}
@@ -34,7 +34,7 @@ use Rattle.file_commands.specs.declared.status.Stop.{Stop}
 use Rattle.file_commands.specs.declared.status.Stop.TheVariants as stops
 use Rattle.lei_office.proofs.Counting.{none_reported}
 
--- what was read of told bytes, to their end
+-- if told bytes were read to their end, they are the bytes that were read
 told_read : (bytes read : List ℕ) (left : Option (List ℕ)) → Loses (Some bytes) left read → IsAtEnd left → read ≡ bytes
 told_read bytes read None loses ended = absurd loses
 told_read bytes read (Some left) loses ended = sym (loses ∙ (ap (λ xs. read ++ xs) ended ∙ append-nil read))
@@ -44,7 +44,7 @@ told_length bytes read None loses = absurd loses
 told_length bytes read (Some left) loses = let whole : length bytes ≡ length (read ++ left) = ap length loses in omega
     (arith, whole, length-append read left)
 
--- where the keeper's count didn't rise, and memory was never wanting
+-- the replies, if the keeper's count didn't rise and memory never ran out
 exactly : (from : OfficeState) (bytes : List ℕ) (course : Course) (before now : ℕ) → course.first ≡ from
     → AnswersLines (lines bytes) course → RoseBy (keeper_faults course.replies) before now → ¬ (Rose before now)
     → ¬ (Contains course.replies (Words NoMemory))
@@ -170,7 +170,7 @@ only_damage stops.NoMemory is = cc
 only_damage stops.StoreDamaged is = refl
 only_damage stops.InputTooLong is = cc
 
--- nothing stopped what the words mean
+-- what the words mean was done, and nothing stopped it
 pub completes_meant : (may : Option KeptTables → Type 0) (command what : Invocation) (meant : Option Invocation) (before after : Outside) (second second_after : Option (List ℕ)) (status number : ℕ) → status ≡ 0
     → number ≡ 0 → Some command ≡ meant → meant ≡ Some what
     → Does may command before after second second_after status → Completes may what before after second second_after number
@@ -185,7 +185,7 @@ completes_meant may command what meant before after second second_after status n
     subst (λ n. Completes may what before after second second_after n) (sym zero)
     (completes may what before after second second_after 0 n3 n4 n6 n7 (subst D same (subst N ok does)))
 
--- what the words mean was stopped, and nothing failed
+-- what the words mean was stopped, but nothing failed
 pub completes_stopped : (may : Option KeptTables → Type 0) (command what : Invocation) (meant : Option Invocation) (before after : Outside) (second second_after : Option (List ℕ)) (ended : Result (Unit {0}) Stop) (stop : Stop) (status : ℕ)
     → ended ≡ Err stop → status ≡ stop_status stop → Some command ≡ meant → meant ≡ Some what → (ended ≡ Err stops.ReadFault → ⊥) → (ended ≡ Err stops.WriteFault → ⊥) → status ≢ 6
     → (ended ≡ Err stops.StoreDamaged → TellsDamage {E = Unit {0}} before after (Ok (tt {0}))) → Does may command before after second second_after (end_status ended)

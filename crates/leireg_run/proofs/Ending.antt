@@ -23,11 +23,11 @@ use Rattle.leireg_run.proofs.Fitting.{reads_office}
 
 -- ---- a run
 
--- the outside where serving has come so far, with these bytes left
+-- the outside at this progress of serving, with these bytes left
 abbrev pub outside_at : Option (List ℕ) → Option KeptTables → Progress CountedOffice → Outside
 outside_at left kept at = outside left at.given at.written kept at.who.faults
 
--- all these lines were answered
+-- the course if all these lines were answered
 abbrev course_of : (start now : Progress CountedOffice) (read : List ℕ)
     (all : List Line) → AnsweredLines OfficeStep start all now → Course
 course_of start now read all answered = record {
@@ -39,7 +39,7 @@ course_of start now read all answered = record {
   last = now.who.office;
 }
 
--- these alone were
+-- the course if only a prefix of these lines was answered
 abbrev cut_course : (start now : Progress CountedOffice) (read : List ℕ)
     (all : List Line) → AnsweredFront OfficeStep start all now → Course
 cut_course start now read all answered = record {

@@ -39,12 +39,12 @@ last_asked line want (inr read) =
     let same : want ≡ wanted (Refuse NoMemory) = cc in
     subst M (sym same) (λ is. omega (arith, is))
 
--- ---- what is read in its place
+-- ---- what is read instead
 
 pub reads_office : SameSteps OfficeStep
 reads_office = reads_so
 
--- so what lines ask fits whoever has an office, where what else it asks for holds
+-- so what lines ask fits every answerer that has an office, if `S`, which it needs in addition, holds
 pub lines_fit : {A : Type 0} (S : Type 0) (part : A → CountedOffice) → S
     → Fits (λ what. MayBeAsked what × S) (StepsBy part) line_rules
 lines_fit S part holds =

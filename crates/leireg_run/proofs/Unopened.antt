@@ -1,4 +1,4 @@
--- Runs over lines whose store is opened, and those whose store isn't.
+-- Runs over lines, with a store that is opened and with a store that isn't.
 use Rattle.std.proofs.Common.{◌≡◌, ◌≤◌, ◌⊎◌, ℕ, ℤ, List, Option, Ok, inl, inr, refl, sym, ap, subst, ◌∙◌, arith}
 use Rattle.std.specs.Prelude.{IfSome}
 use Rattle.lei_outside.specs.Count.{Rose}
@@ -52,7 +52,7 @@ opens_runs {K} tables faults left given written keeper opened first after status
   runs = runs_so first left given written (tables keeper) (tables opened) (faults keeper) (faults opened) after status same runs;
 })
 
--- then the status isn't one of a store that isn't opened
+-- after that the status isn't one of a store that isn't opened
 pub opened_status : (from : OfficeState) (before after : Outside) (status : ℕ) → RunsFrom from before after status → IsUnopened status → ⊥
 opened_status from before after status runs unopened = by_end status runs.course runs.ends unopened
   where
@@ -72,7 +72,7 @@ pub fails_opening : (may : Option KeptTables → Type 0) (left : Option (List �
     → Stays old new → Rose before now → RunsLines may (outside left given written old before) (outside left given written new now) 5
 fails_opening may left given written old new before now stays rose = inr (record { unread = refl; unasked = refl; kept = stays; faultless = λ other. absurd (other refl); ends = inl (refl, rose, refl) })
 
--- memory was wanted
+-- memory ran out
 pub wants_opening : (may : Option KeptTables → Type 0) (left : Option (List ℕ)) (given : Option (List ℤ)) (written : Option (List ℕ)) (old new : Option KeptTables) (before now : ℕ)
     → Stays old new → now ≡ before → RunsLines may (outside left given written old before) (outside left given written new now) 6
 wants_opening may left given written old new before now stays same = inr (record { unread = refl; unasked = refl; kept = stays; faultless = λ _. same; ends = inr (inl (refl, refl)) })
@@ -98,7 +98,7 @@ damaged_opening may left given written written' old new before now damage stop s
       ends = inr (inr (inl (ap stop_status wanted.0, record { damage = damage; is = is; written = wanted.1 })));
     })
 
--- it is told whole
+-- the damage is written in full
 pub damage_whole : (left left' : Option (List ℕ)) (given given' : Option (List ℤ)) (written written' : Option (List ℕ)) (old new : Option KeptTables) (before now : ℕ) (damage : Damage)
     → IfSome new (λ tables. IsDamage standard tables damage) → Grows written written' (damage_text damage)
     → TellsDamage {E = Unit {0}} (outside left given written old before) (outside left' given' written' new now) (Ok (tt {0}))
@@ -121,14 +121,14 @@ not_unopened status which unopened = elim which [
   ]
 ]
 
--- no store is opened by a command over two files
+-- a command over two files doesn't end with a status of a store that isn't opened
 pub files_unopened : (rule : Rule) (before after : Files) (status : ℕ) → DoesWithFiles rule before after status → IsUnopened status → ⊥
 files_unopened rule before after status does = not_unopened status (files_status rule before after status does)
 
--- nor by a search
+-- nor does a search
 pub search_unopened : (form : Form) (before after : Files) (status : ℕ) → Searches form before after status → IsUnopened status → ⊥
 search_unopened form before after status searches = not_unopened status (search_status form before after status searches)
 
--- nor by a mirror
+-- nor does a mirror
 pub mirror_unopened : (before after : Sides) (status : ℕ) → Mirrors before after status → IsUnopened status → ⊥
 mirror_unopened before after status mirrors = not_unopened status (mirror_status before after status mirrors)

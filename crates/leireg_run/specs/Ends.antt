@@ -39,21 +39,21 @@ use Rattle.program_words.specs.Words.{Invocation, to_answer_lines, to_check, to_
 
 -- ---- a run over lines, status by status
 
--- The lines were answered at the moments of the run, from its first office to its last, and what was written are the
--- texts of the replies in order.
+-- The lines were answered at the moments of the run, from its first office to its last. The bytes that were written are
+-- the texts of the replies, in order.
 abbrev pub AnswersLines : List Line → Course → Type 0
 AnswersLines asked_lines course =
     Answers course.first (asks_of_lines asked_lines) course.moments course.replies course.written course.last
 
--- A front of the lines was answered so, and no line behind it: of the last reply's text perhaps a front alone is
--- written.
+-- A prefix of the lines was answered in this way, and no line after it. Of the last reply's text perhaps only a prefix
+-- was written.
 abbrev pub AnswersSome : List Line → Course → Type 0
 AnswersSome all_lines course =
     (front : List Line) × (rest : List Line) × (all_lines ≡ front ++ rest)
     × AnswersCutShort course.first (asks_of_lines front) course.moments course.replies
     course.written course.last
 
--- Fewer bytes were read than end a run.
+-- Fewer bytes were read than the number that ends a run.
 abbrev pub IsShort : Course → Type 0
 IsShort course = length course.read < input_limit
 
@@ -65,16 +65,16 @@ ReadsAll course after = IsShort course × IsAtEnd after.left × AnswersLines (li
 abbrev pub StopsReading : Course → Type 0
 StopsReading course = IsShort course × AnswersLines (lines (whole_part course.read)) course
 
--- Status 4, a write failed, and status 6, memory was wanted: a front of the lines that had ended was answered, the
--- replies are written, and of the last one's text perhaps a front alone. Where the input was read to its end, its
--- last line had ended too.
+-- Status 4, a write failed, and status 6, memory ran out: a prefix of the lines that had ended was answered. The
+-- replies were written, and of the last one's text perhaps only a prefix. If the input was read to its end, its last
+-- line had ended too.
 abbrev pub StopsWriting : Course → Outside → Type 0
 StopsWriting course after =
     IsShort course × (AnswersSome (lines (whole_part course.read)) course
     ⊎ (IsAtEnd after.left × AnswersSome (lines course.read) course))
 
--- Status 8, the input is too long: as many bytes were read as end a run, and the lines that had ended before some last
--- bytes of these, at most as many as one read gives, were answered.
+-- Status 8, the input is too long: as many bytes were read as end a run. Their last part is at least one byte and at
+-- most as many as one read gives. All lines that had ended before this part were answered.
 abbrev pub StopsAtLimit : Course → Type 0
 StopsAtLimit course =
     (before : List ℕ) × (last : List ℕ) × (course.read ≡ before ++ last) × (length course.read ≡ input_limit)
@@ -89,22 +89,21 @@ EndsWith status course after =
     ⊎ ((status ≡ 6) × StopsWriting course after)
     ⊎ ((status ≡ 8) × StopsAtLimit course)
 
--- What a run over lines does to the outside from this office on, and how it ends.
+-- What a run over lines, starting with this office, does to the outside, and how it ends.
 pub record RunsFrom (from : OfficeState) (before after : Outside) (status : ℕ) : Type 0 where
   pub course : Course
   pub first : course.first ≡ from
   pub leads : Leads before course after
   pub ends : EndsWith status course after
 
--- ---- the office that a run begins with
+-- ---- the office that a run starts with
 
--- A keeper of this kind may tell this.
+-- A keeper of this type may tell this.
 abbrev pub MayTell : {K : Type 0} → (K → Option KeptTables) → Option KeptTables → Type 0
 MayTell {K} tables told = (keeper : K) × (tables keeper ≡ told)
 
--- The office was opened of what the keeper told before: there was a state of the keeper in which it told that, or
--- nothing any more, and the office is that of what it told then. If the keeper tells its tables afterwards, it told
--- them then.
+-- The office was opened from what the keeper told before. In some state the keeper told that, or nothing any more, and
+-- the office is that of what it told then. If the keeper tells its tables afterwards, it told them in that state.
 pub record Opens (may : Option KeptTables → Type 0) (before after : Option KeptTables)
     (office : OfficeState) : Type 0
   where
@@ -114,27 +113,28 @@ pub record Opens (may : Option KeptTables → Type 0) (before after : Option Kep
     pub is : IsOpened told office
     pub untold : StaysUntold told after
 
--- Lines were answered from the office that was opened on.
+-- Lines were answered, starting with the office that was opened.
 pub record OpensAndRuns (may : Option KeptTables → Type 0) (before after : Outside)
     (status : ℕ) : Type 0 where
   pub first : OfficeState
   pub opened : Opens may before.kept after.kept first
   pub runs : RunsFrom first before after status
 
--- The first difference between what the keeper has and what its entries come to, as it is written: its entry's number,
--- what is kept and what the replay makes, each in a line.
+-- The first difference between what the keeper has and what its entries leave, as it is written. It has three lines:
+-- the number of its entry, what is kept, and what the replay makes.
 abbrev pub damage_text : Damage → Text
 damage_text damage = codes "STORE_DAMAGED " ++ (decimal damage.entry
     ++ (codes "\nkept " ++ (damage.kept ++ (codes "\nreplayed " ++ (damage.replayed ++ codes "\n")))))
 
--- The first difference, where the keeper tells its tables, was written whole; or the output took a front of its text.
+-- The first difference, if the keeper tells its tables, was written in full, or only a proper prefix of its text was.
 pub record TellsDamage {E : Type 0} (before after : Outside) (result : Result (Unit {0}) E) : Type 0 where
   pub damage : Damage
   pub is : IfSome after.kept (λ tables. IsDamage standard tables damage)
   pub written : IsSent before.written after.written (damage_text damage) result
 
--- Nothing was read, and the keeper has what it had. Status 5: a call of the keeper failed, and with no other status did
--- one. Status 6: memory was wanted. Status 7: what the keeper has is damaged, and that is told.
+-- Nothing was read, and the keeper has what it had. Status 5: a call of the keeper failed, which is so for no other
+-- status. Status 6: memory ran out. Status 7: what the keeper has is damaged, and this was reported, perhaps only in
+-- part.
 pub record FailsToOpen (before after : Outside) (status : ℕ) : Type 0 where
   pub unread : after.left ≡ before.left
   pub unasked : after.given ≡ before.given
@@ -145,25 +145,25 @@ pub record FailsToOpen (before after : Outside) (status : ℕ) : Type 0 where
       ⊎ ((status ≡ 6) × TellsDamage {E = Unit {0}} before after (Err (tt {0})))
       ⊎ ((status ≡ 7) × (told : Result (Unit {0}) (Unit {0})) × TellsDamage before after told)
 
--- A run that ends with this status has opened no store: 5 and 7.
+-- A run that ends with one of these statuses has opened no store: 5 and 7.
 abbrev pub IsUnopened : ℕ → Type 0
 IsUnopened status = (status ≡ 5) ⊎ (status ≡ 7)
 
--- What is written of damage, and what the command is stopped as then: the output took the text or refused it, or found
--- no memory.
+-- What is written about damage, and how the command stops then. It stops as damaged if the output took the text or
+-- failed, and as out of memory if there was no memory for writing.
 abbrev pub IsDamageTold : Option (List ℕ) → Option (List ℕ) → Text → Stop → Type 0
 IsDamageTold before after text stop =
     ((stop ≡ stops.StoreDamaged) × (told : Result (Unit {0}) (Unit {0})) × IsSent before after text told)
     ⊎ ((stop ≡ stops.NoMemory) × WritesFront before after text)
 
--- What a run over lines does: the store is opened and the lines are answered, or it isn't.
+-- What a run over lines does: the store is opened and the lines are answered, or the store isn't opened.
 abbrev pub RunsLines : (Option KeptTables → Type 0) → Outside → Outside → ℕ → Type 0
 RunsLines may before after status = OpensAndRuns may before after status ⊎ FailsToOpen before after status
 
 -- ---- a made-up register
 
--- The summary was written whole; or a write failed, or memory was wanted, and a front of it was written and not all; or
--- nothing was written, since memory was wanted for it.
+-- The summary was written in full. Or a write failed or memory ran out, and only a proper prefix of it was written. Or
+-- nothing was written, because there was no memory for the summary.
 abbrev pub TellsSummary : ℕ → Option (List ℕ) → Option (List ℕ) → ℕ → Type 0
 TellsSummary records before after status =
     ((text : Text) × IsSummary records text
@@ -174,9 +174,9 @@ TellsSummary records before after status =
 
 -- ---- any command
 
--- What was meant was done, with this status: a store was opened, where the keeper may tell so, and the lines of the
--- input were answered; the line of a text was written; two files were read, of which the second is told apart, and what
--- comes of them was written; or the summary of a made-up register was. No server is run so.
+-- What was meant was done, with this status. A run over lines was made, with a keeper that may tell such tables. Or the
+-- line of a text was written. Or inputs were read, of which the second is a separate argument, and the result was
+-- written. Or the summary of a made-up register was written. No server runs in this way.
 abbrev pub Does : (Option KeptTables → Type 0) → Invocation → Outside → Outside → Option (List ℕ)
     → Option (List ℕ) → ℕ → Type 0
 Does may to_answer_lines before after second_before second_after status = RunsLines may before after status
@@ -199,16 +199,16 @@ Does may (to_report who form) before after second_before second_after status =
 Does may (to_make_up records) before after second_before second_after status =
     TellsSummary records before.written after.written status
 
--- What was meant was done, with this status; or memory was wanting to read the words, and all is as it was.
+-- What was meant was done, with this status. Or there was no memory to read the words, and everything is as it was.
 abbrev pub DoesIfRead : (Option KeptTables → Type 0) → Invocation → Outside → Outside → Option (List ℕ)
     → Option (List ℕ) → ℕ → Type 0
 DoesIfRead may what before after second_before second_after status =
     Does may what before after second_before second_after status
     ⊎ ((status ≡ 6) × (after ≡ before) × (second_after ≡ second_before))
 
--- All of these bytes were read, their lines answered at moments of the clock from the office that was opened on, and
--- the replies written, with status 0. Where the keeper doesn't fail and memory is never wanting, the replies are those
--- that the lines and the moments determine.
+-- All of these bytes were read, and their lines were answered at moments of the clock, starting with the office that
+-- was opened. The replies were written, with status 0. If the keeper doesn't fail and memory never runs out, the
+-- replies are those that the lines and the moments determine.
 pub record IsComplete (may : Option KeptTables → Type 0) (bytes : List ℕ) (before after : Outside)
     (status : ℕ) : Type 0
   where
@@ -226,10 +226,11 @@ pub record IsComplete (may : Option KeptTables → Type 0) (bytes : List ℕ) (b
     pub exact : ¬ (Rose before.faults after.faults) → ¬ (Contains replies (Words NoMemory))
         → replies ≡ replies_to first (asks_of_lines (lines bytes)) moments
 
--- Where no source and no sink fails and no memory is wanting, all is done: an input that is told and short enough is
--- answered whole, unless a call of the keeper failed while its store was opened, or the store is damaged, which is told
--- whole; a text is told, with status 0 or 2; files that are told and short enough are answered, with status 0 or 2; and
--- a register is made up and told, with status 0.
+-- If no source and no sink fails and memory doesn't run out, everything is done. An input of lines that is told and
+-- short enough is answered in full. The exceptions are that a call of the keeper failed while its store was opened, or
+-- that the store is damaged, which is reported in full. The line of a text is written, with status 0 or 2. Files that
+-- are told and short enough are answered, with status 0 or 2. A register is made up and its summary is written, with
+-- status 0.
 abbrev pub Completes : (Option KeptTables → Type 0) → Invocation → Outside → Outside → Option (List ℕ)
     → Option (List ℕ) → ℕ → Type 0
 Completes may to_answer_lines before after second_before second_after status =

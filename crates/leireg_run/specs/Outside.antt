@@ -1,4 +1,4 @@
--- The outside of a run, as its devices tell it, and what a run does there.
+-- The outside of a run, as its devices tell it, and what a run does to it.
 use Rattle.std.specs.Prelude.{◌≡◌, ℕ, ℤ, List, Option}
 use Rattle.lei_outside.specs.Count.{Rose}
 use Rattle.lei_outside.specs.Faults.{FailsLast}
@@ -11,9 +11,9 @@ use Rattle.request_loop.specs.Counts.{RoseBy}
 use Rattle.request_loop.specs.Moments.{ClockGives}
 use Rattle.lei_office.specs.Faults.{keeper_faults}
 
--- What the devices of a run tell at one time: the bytes that the input has left, the moments that the clock has
--- given, the bytes that were written to the output, what the keeper has kept, and how many calls of the keeper have
--- failed. For a device that doesn't tell it, `None` stands.
+-- What the devices of a run tell at one time. The input tells the bytes that it has left, the clock the moments that it
+-- has given, and the output the bytes that were written. The keeper tells what it has kept; how many of its calls have
+-- failed is always known. It has `None` for what a device doesn't tell.
 pub record Outside : Type 0 where
   pub left : Option (List ℕ)
   pub given : Option (List ℤ)
@@ -31,17 +31,16 @@ outside left given written kept faults = record {
   faults = faults;
 }
 
--- What a run does to its output. If this is a fault of it, a write failed, and nothing was written after it. If a store is
--- damaged, a write may have failed while that was written, and then too nothing was written after it. Otherwise no write
--- failed.
+-- What a run does to its output. If the run ends with `fault`, its last write failed. If it ends with `damaged`, its last
+-- write may have failed, and no other did. Otherwise no write failed.
 pub record OutputFails {W : Type 0} (fault damaged : Type 0) (written : W → Option (List ℕ)) (faults : W → ℕ)
     (before after : W) : Type 0 where
   pub last : fault → FailsLast written faults before after
   pub damage : damaged → Rose (faults before) (faults after) → FailsLast written faults before after
   pub none : ¬ fault → ¬ damaged → faults after ≡ faults before
 
--- What a run does to the outside: the office that it begins with, the bytes that it reads, the moments that it is
--- given, the replies that it gives, the bytes that it writes, each in their order, and the office that it ends with.
+-- What a run does to the outside. It starts with one office and ends with another. In between it reads bytes, is given
+-- moments, gives replies and writes bytes, each in order.
 pub record Course : Type 0 where
   pub first : OfficeState
   pub read : List ℕ
@@ -50,9 +49,9 @@ pub record Course : Type 0 where
   pub written : List ℕ
   pub last : OfficeState
 
--- Between these two times a run did this and no more: the input lost what was read, the clock gave the moments, the
--- output took what was written, the keeper has what the last office has taken, and it refused at least as often as is
--- told in the replies. A device that tells nothing says nothing of it.
+-- Between these two times a run did this and nothing else. The input lost what was read, the clock gave the moments,
+-- and the output took what was written. The keeper has what the last office has taken, and its calls failed at least as
+-- often as the replies report. For a device that tells nothing, this says nothing.
 pub record Leads (before : Outside) (course : Course) (after : Outside) : Type 0 where
   pub reads : Loses before.left after.left course.read
   pub gives : ClockGives before.given after.given course.moments

@@ -1,4 +1,4 @@
--- Replies to lines over an office.
+-- Replies to lines from an office.
 use Rattle.std.specs.Prelude.{◌≡◌, ℕ, ℤ, List}
 use Rattle.register_words.specs.declared.reply.Reply.{Reply}
 use Rattle.register_words.specs.declared.request.Asked.{Asked}
@@ -7,16 +7,15 @@ use Rattle.register_history.specs.Legal.{Session}
 use Rattle.line_reading.specs.LineRuns.{AreTextsOf}
 use Rattle.line_reading.specs.Replies.{reply_texts}
 
--- These replies answer what was asked, in order, at these moments, from one office to the other, and these bytes are
--- their texts in order.
+-- These replies answer what was asked, in order, at these moments, from the first office to the second, and these bytes
+-- are their texts, in order.
 pub record Answers (old : OfficeState) (asks : List Asked) (moments : List ℤ) (replies : List Reply)
     (written : List ℕ)
     (new : OfficeState) : Type 0 where
   pub session : Session old asks moments replies new
   pub texts : written ≡ reply_texts asks replies
 
--- The same, but of the last reply's text perhaps a front alone: these replies answer what was asked, in order, at these
--- moments, from one office to the other, and these bytes are their texts so.
+-- The same, except that perhaps only a prefix of the last reply's text is among these bytes.
 pub record AnswersCutShort (old : OfficeState) (asks : List Asked) (moments : List ℤ) (replies : List Reply)
     (written : List ℕ) (new : OfficeState) : Type 0 where
   pub session : Session old asks moments replies new

@@ -1,11 +1,10 @@
--- What a run between an input and an output is asked for by the words behind the program's name. This project's
--- profile.
+-- What the words after the program's name ask of a run between an input and an output. This project's profile.
 use Rattle.std.specs.Prelude.{◌≡◌, List, Bool, true, false, map, string_bytes, String, Option, None, Some, option_and_then}
 use Rattle.std.specs.Global.{Global}
 use Rattle.lei_code.specs.Texts.{Text}
 use Rattle.program_words.specs.Words.{Invocation, meant, to_answer_lines, to_check, to_make_digits, to_make_up, to_mirror, to_patch, to_report, to_search, to_serve}
 
--- An invocation that is done between an input and an output: any but to serve, which has doors in their place.
+-- An invocation that runs between an input and an output: any except to serve, which has doors instead.
 abbrev pub unless_serving : Invocation → Option Invocation
 unless_serving to_answer_lines = Some to_answer_lines
 unless_serving to_serve = None
@@ -17,7 +16,7 @@ unless_serving (to_check text) = Some (to_check text)
 unless_serving (to_make_digits text) = Some (to_make_digits text)
 unless_serving (to_make_up records) = Some (to_make_up records)
 
--- What the words ask for, and nothing where they are no command of such a run.
+-- What the words ask for, or nothing if they aren't a command of such a run.
 abbrev pub invocation_in : List Text → Option Invocation
 invocation_in words = option_and_then (λ what. unless_serving what.invocation) (meant words)
 

@@ -1,4 +1,4 @@
-//! The command that the words ask for.
+//! Reads the command that the words ask for.
 ghost use Rattle.std.specs.Prelude.{◌≡◌, Some, map, string_bytes, IfOk};
 ghost use Rattle.program_words.specs.Reading.{Finds};
 ghost use Rattle.program_words.specs.Words.{IsInRange, invocation_of};
@@ -7,7 +7,7 @@ ghost use Rattle.leireg_run.specs.Words.{invocation_in, unless_serving};
 use program_words::{Command, WordsFault, wanted};
 use std::alloc::Global;
 
-/// The command that these words are, of those that are done between an input and an output: any but to serve.
+/// The command that these words are, out of those that run between an input and an output: any except to serve.
 pub fn command_of<'a>(alloc: Global, words: &'a [String]) -> Result<Command<'a>, WordsFault>
     ensures meant { Finds invocation_of (invocation_in (map string_bytes words.now)) result }
     ensures range { IfOk result IsInRange }

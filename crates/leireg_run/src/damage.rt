@@ -1,4 +1,4 @@
-//! What is told of a store that can't be opened.
+//! Reports a store that is damaged.
 ghost use Rattle.std.specs.Prelude.{◌≡◌, IsErrOf};
 ghost use Rattle.file_commands.specs.Devices.{FailsIf};
 ghost use Rattle.request_loop.specs.Wires.{IsSent};
@@ -8,7 +8,7 @@ use file_commands::write_pieces;
 use lei_office::Damage;
 use lei_outside::{Sink, SinkFault};
 
-/// Writes the first difference between what a keeper has and what its entries come to, in three lines.
+/// Writes the first difference between what a keeper has and what its entries leave, in three lines.
 pub fn write_damage<W: Sink>(damage: &Damage, out: &mut W) -> Result<(), SinkFault>
     ensures written { IsSent (W.written out.old) (W.written out.new) (damage_text damage.now) result }
     ensures writes { FailsIf (IsErrOf result SinkFault.Failed) W.written W.faults out.old out.new }

@@ -10,7 +10,7 @@ use register_demo::demo;
 use std::alloc::Global;
 use std::thread::Threads;
 
-/// Makes up a register of so many records, and writes its summary. Until then the output is asked to report how far it is.
+/// Makes up a register of this many records, and writes its summary. Until then the output reports the progress.
 pub fn tell_demo<R: Threads + Sync, W: Sink>(
     rt: &R,
     alloc: Global,

@@ -1,4 +1,4 @@
-//! Laws of what commands do, each as the contract of a function that does nothing.
+//! Laws of what commands do, each stated as the contract of a function that does nothing.
 ghost use Rattle.std.specs.Prelude.{ℕ};
 ghost use Rattle.file_commands.specs.Mirroring.{AnswersMirror, ShowsTrail};
 ghost use Rattle.file_commands.specs.Sides.{Sides};
@@ -6,8 +6,8 @@ ghost use Rattle.register_history.specs.Legal.{Legal};
 ghost use Rattle.register_history.specs.Publications.{trail};
 ghost use Rattle.register_history.specs.State.{OfficeState};
 
-/// Over a history that can come about: if all packets that a mirror is sent are copies and deltas of its publications,
-/// each file that is shown is the copy of the publication that is shown then, byte for byte.
+/// For a legal history, suppose that all packets that a mirror is sent are copies and deltas of its publications. Then
+/// each file that is shown is the copy of the publication that is shown at that time, byte for byte.
 pub fn mirrors_show_copies_of_histories()
     ensures { (office : OfficeState) → Legal office → (before after : Sides) (status : ℕ)
         → (answers : AnswersMirror before after status)

@@ -1,4 +1,4 @@
-//! The commands of the program, over any sources, any sink, any keeper and any clock.
+//! The commands of the program, for any sources, any sink, any keeper and any clock.
 #![tactic(auto)]
 
 mod command;

@@ -37,9 +37,9 @@ struct Machine<'a, R> {
     alloc: Global,
 }
 
-/// Does what the words ask for, which are the program's words without its name. Says the status that it ends with, and
-/// gives the keeper back. Lines are answered from the office of what the keeper has. The clock is asked for one moment
-/// for each line that asks something, after the line was read.
+/// Does what the words ask for, which are the program's words without its name. Returns the status that the run ends
+/// with, and the keeper. Lines are answered from the office of what the keeper has. The clock is asked for one moment
+/// for each request in a line, after the line was read.
 pub fn run<R: Threads + Sync, S: Source, T: Source, W: Sink, K: Keeper, C: Clock>(
     rt: &R,
     alloc: Global,
@@ -176,7 +176,8 @@ fn run_lines<R: Threads + Sync, S: Source, W: Sink, K: Keeper, C: Clock>(
     }
 }
 
-// Tells that a store is damaged, and says what the command is stopped as: where the output refuses, that stays so.
+// Reports that a store is damaged, and returns how the command stops. It stops as damaged even if the output failed,
+// but as out of memory if there was no memory for writing.
 fn tell_damage<W: Sink>(damage: &Damage, out: &mut W) -> Stop
     ensures stop { IsDamageTold (W.written out.old) (W.written out.new) (damage_text damage.now) result }
     ensures kept { result ≡ Stop.NoMemory → W.faults out.new ≡ W.faults out.old }
@@ -192,7 +193,8 @@ fn tell_damage<W: Sink>(damage: &Damage, out: &mut W) -> Stop
     }
 }
 
-// The office of what the keeper has, under the standard limits. Where it can't be opened, the keeper comes back.
+// Opens the office of what the keeper has, under the standard limits. If it can't be opened, the error returns the
+// keeper.
 fn open_office<R: Threads + Sync, K: Keeper>(
     rt: &R,
     alloc: Global,
@@ -209,7 +211,7 @@ fn open_office<R: Threads + Sync, K: Keeper>(
     Office::open(rt, alloc, keeper, Limits::standard())
 }
 
-// Answers the lines of an input, by a framing that has read nothing.
+// Answers the lines of an input, with a framing that has read nothing.
 fn answer_input<R: Threads + Sync, S: Source, W: Sink, K: Keeper, C: Clock>(
     rt: &R,
     office: &mut Office<K>,
@@ -233,7 +235,7 @@ fn answer_input<R: Threads + Sync, S: Source, W: Sink, K: Keeper, C: Clock>(
     serve_lines(rt, office, framing, &mut wire, clock)
 }
 
-// Answers the lines that a wire gives, by a framing that has read nothing.
+// Answers the lines that a wire gives, with a framing that has read nothing.
 fn serve_lines<R: Threads + Sync, S: Source, W: Sink, K: Keeper, C: Clock>(
     rt: &R,
     office: &mut Office<K>,

@@ -1,4 +1,4 @@
--- What lines ask has numbers in their ranges, and no refusal of theirs is a fault of the keeper.
+-- Requests of lines have numbers in their ranges, and refusals of lines report no fault of the keeper.
 use Rattle.std.proofs.Common.{◌≡◌, ◌≢◌, ◌<◌, arith, ℕ, List, length, Option, Some, None, true, false, cond, ltb, refl, subst}
 use Rattle.std.specs.Option.{option_and_then, option_map}
 use Rattle.register_words.specs.declared.request.Request.{Request}
@@ -17,7 +17,7 @@ use Rattle.line_reading.specs.Requests.{asked, asked_in, asked_by, or_path, cut,
 use Rattle.line_reading.specs.declared.requests.FirstWord.{FirstWord}
 use Rattle.line_reading.specs.declared.requests.FirstWord.TheVariants.{Accredit, Upload, Kept, Publish, Show, Copy, Delta, Status}
 
--- what is asked has a number in its range, and a refusal of the reader reports no fault of the keeper
+-- what is asked is a request with a number in its range, or a refusal that reports no fault of the keeper
 abbrev pub AsksInRange : Asked → Type 0
 AsksInRange (Refuse refusal) = refusal_status_code refusal ≢ 503
 AsksInRange (Ask request) = IsNumbered request
@@ -105,6 +105,6 @@ in_range line =
 pub is_numbered : (line : Line) (request : Request) → asked line ≡ Ask request → IsNumbered request
 is_numbered line request is = let P : Asked → Type 0 = λ what. AsksInRange what in subst P is (in_range line)
 
--- and a refusal reports no fault of the keeper
+-- a refusal of a line reports no fault of the keeper
 pub reports_no_fault : (line : Line) (refusal : Refusal) → asked line ≡ Refuse refusal → refusal_status_code refusal ≢ 503
 reports_no_fault line refusal is = let P : Asked → Type 0 = λ what. AsksInRange what in subst P is (in_range line)

@@ -38,7 +38,7 @@ no_file (Ask (requests.Copy sheet form)) wants = absurd wants
 no_file (Ask (requests.Delta base sheet form)) wants = absurd wants
 no_file (Ask requests.Status) wants = absurd wants
 
--- what is read where memory ran out is written alike
+-- the reply is written in the same way if memory ran out while the line was read
 pub text_same : (what : Asked) (reply : Reply) → MayWantMemory what
     → reply_text (Refuse NoMemory) reply ≡ reply_text what reply
 text_same what reply wants = ap (reply_bytes reply) (sym (no_file what wants))
@@ -56,7 +56,7 @@ are_meant line frame (inr read) =
 
 -- ---- a line is whole
 
--- nothing is held of what comes after it
+-- of the bytes after the line, all are held and none was searched
 pub holds_rest : (rest : List ℕ) → Holds false 0 rest rest
 holds_rest rest = (refl, omega arith, HasNoEnd-nil)
 
@@ -91,7 +91,7 @@ too_long line long =
 pub long_wants : (line : Line) → line_limit < length line → want_of line ≡ Some (wanted (Refuse TooLong))
 long_wants line long = wants_asked line (omega (arith, long)) ∙ ap (λ what. Some (wanted what)) (too_long line long)
 
--- the last line, of which a front was dropped
+-- the last line, whose first bytes were dropped
 pub long_last : (skips : Bool) (seen : ℕ) (held bytes : List ℕ) (want : Want Asked NoEnd) → skips ≡ true
     → want ≡ wanted (Refuse TooLong) → Holds skips seen held bytes → IsReadOf bytes (Some want)
 long_last true seen held bytes want is refused (dropped, parts, none, long) =
@@ -99,7 +99,7 @@ long_last true seen held bytes want is refused (dropped, parts, none, long) =
     inl (ap Some refused ∙ sym (long_wants bytes size))
 long_last false seen held bytes want is refused holds = cc
 
--- a line that is too long ends
+-- the end of a line that is too long
 pub long_ends : (seen : ℕ) (held bytes waiting : List ℕ) (end : ℕ) (want : Want Asked NoEnd) → Holds true seen held bytes
     → Ends held (take end held) (drop (end + 1) held) → end < length held → want ≡ wanted (Refuse TooLong) → waiting ≡ []
     → ReadsWhole line_rules (Holds false 0) bytes held waiting (Some want) (end + 1)

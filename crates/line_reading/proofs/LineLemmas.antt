@@ -1,4 +1,4 @@
--- The lines of bytes that come piece by piece.
+-- The lines of bytes that come in pieces.
 use Rattle.std.proofs.Common.{◌≡◌, ◌≢◌, ℕ, suc, ◌+◌, ◌-◌, ◌<◌, ◌≤◌, ◌⊎◌, inl, inr, ◌==◌, ◌||◌, Bool, true, false, cond, Some, None, List, [], ◌∷◌, ◌++◌, length, take, drop, get_or, refl, sym, ap, ◌∙◌, subst, arith, append_assoc, length-append, drop-cons, add-one, take-append-drop, eq-eqb}
 use Rattle.std.specs.List.{All, flat_map, slice_split}
 use Rattle.std.specs.Str.Lines.{lines, lines_of_parts}
@@ -29,7 +29,7 @@ is_end-false byte h = elim (eqb_tells byte 10) [ inl is ↦ cc | inr is ↦ is.1
 no_test : (part : List ℕ) → HasNoEnd part → All (λ byte. is_end byte ≡ false) part
 no_test part none = All-weaker IsOther (λ byte. is_end byte ≡ false) is_end-other part none
 
--- bytes without an end
+-- bytes without a line's end
 
 pub HasNoEnd-nil : HasNoEnd []
 HasNoEnd-nil = All-nil IsOther
@@ -40,12 +40,12 @@ HasNoEnd-append xs ys a b = All-append IsOther xs ys a b
 pub HasNoEnd-take : (n : ℕ) (xs : List ℕ) → HasNoEnd xs → HasNoEnd (take n xs)
 HasNoEnd-take n xs none = All-take IsOther n xs none
 
--- where a search for LF found none
+-- if a search for LF found none, no byte ends a line
 pub HasNoEnd-unfound : (bytes : List ℕ) → IsFirstByte (is_byte 10) bytes None → HasNoEnd bytes
 HasNoEnd-unfound bytes nowhere =
     All-from_get_or IsOther bytes 0 (λ k within is. nowhere k (omega arith) within (eq-eqb (get_or bytes k 0) 10 is))
 
--- where a search for LF found the first, there is none before it
+-- if a search for LF found the first one, there is none before it
 pub HasNoEnd-before : (bytes : List ℕ) (at : ℕ) → IsFirstByte (is_byte 10) bytes (Some at) → HasNoEnd (take at bytes)
 HasNoEnd-before bytes at found =
     let within : at < length bytes = found.0.high in
@@ -54,7 +54,7 @@ HasNoEnd-before bytes at found =
     let lower : k < at = omega arith in
     found.0.before k (omega arith) lower (eq-eqb (get_or bytes k 0) 10 (sym (get_or-take at bytes k 0 lower) ∙ is)))
 
--- and the bytes are cut there
+-- the bytes are cut at that LF
 pub cut_at_end : (bytes : List ℕ) (at : ℕ) → IsFirstByte (is_byte 10) bytes (Some at)
     → bytes ≡ (take at bytes ++ 10 ∷ []) ++ drop (at + 1) bytes
 cut_at_end bytes at found =
@@ -78,11 +78,11 @@ lines-first part rest none =
     ap lines_of_parts (slice_split_at is_end part 10 rest (no_test part none) refl)
     ∙ lines-cons part (slice_split is_end rest) (omega (arith, length-slice_split is_end rest))
 
--- an LF behind bytes that have none ends one line
+-- an LF after bytes without LF ends one line
 pub lines-one : (part : List ℕ) → HasNoEnd part → lines (part ++ 10 ∷ []) ≡ line_of part ∷ []
 lines-one part none = lines-first part [] none
 
--- bytes without an LF are one line, or none where there is no byte
+-- bytes without an LF are one line, or no line if there is no byte
 pub lines-last : (part : List ℕ) → HasNoEnd part → lines part ≡ cond (length part == 0) [] (part ∷ [])
 lines-last part none = ap lines_of_parts (slice_split_none is_end part (no_test part none))
 
@@ -103,7 +103,7 @@ lines-behind (byte ∷ bytes) part rest none =
           ∙ ap (λ l. lines l ++ lines rest) (append_assoc part (byte ∷ []) (bytes ++ 10 ∷ []))
     ]
 
--- the lines of whole lines come first, whatever stands behind them
+-- the lines of whole lines come first, whatever follows them
 pub lines-closed : (front rest : List ℕ) → IsClosed front → lines (front ++ rest) ≡ lines front ++ lines rest
 lines-closed front rest (inl none) = ap (λ l. lines (l ++ rest)) none ∙ sym (ap (λ l. lines l ++ lines rest) none)
 lines-closed front rest (inr ends) =
@@ -124,14 +124,14 @@ IsClosed-append front more closed (inl none) =
 IsClosed-append front more closed (inr ends) =
     inr (front ++ ends.0, ap (λ l. front ++ l) ends.1 ∙ sym (append_assoc front ends.0 (10 ∷ [])))
 
--- an LF makes one line more of what stands behind whole lines
+-- an LF makes one more line from what follows whole lines
 pub lines-more : (front part : List ℕ) → IsClosed front → HasNoEnd part
     → lines ((front ++ part) ++ 10 ∷ []) ≡ lines front ++ line_of part ∷ []
 lines-more front part closed none =
     ap lines (append_assoc front part (10 ∷ [])) ∙ lines-closed front (part ++ 10 ∷ []) closed
     ∙ ap (λ ls. lines front ++ ls) (lines-one part none)
 
--- what stands behind whole lines is the last line, where there is a byte
+-- what follows whole lines is the last line, if there is a byte
 pub lines-end : (front part : List ℕ) → IsClosed front → HasNoEnd part
     → lines (front ++ part) ≡ lines front ++ cond (length part == 0) [] (part ∷ [])
 lines-end front part closed none =
@@ -146,7 +146,7 @@ length-line_of part =
     as (λ test. length part ≤ length (cond test (take (length part - 1) part) part) + 1)
     [ true ↦ omega arith | false ↦ omega arith ]
 
--- whole lines, and what stands behind them
+-- whole lines, and what follows them
 
 or_false : (a b : Bool) → (a || b) ≡ false → (a ≡ false) × (b ≡ false)
 or_false true b h = cc
@@ -199,7 +199,7 @@ tells : (test : Bool) → Tells test
 tells true = inl refl
 tells false = inr refl
 
--- every list of bytes is the two parts
+-- every list of bytes is its whole lines and what follows them
 pub parts_of : (bytes : List ℕ) → whole_part bytes ++ last_part bytes ≡ bytes
 parts_of [] = ap (λ l. l ++ last_part []) (whole_part-none [] refl) ∙ last_part-none [] refl
 parts_of (byte ∷ bytes) =
@@ -255,7 +255,7 @@ last_part-mid [] part none =
 last_part-mid (byte ∷ bytes) part none =
     last_part-some byte (bytes ++ 10 ∷ part) (has_end-mid (byte ∷ bytes) part) ∙ last_part-mid bytes part none
 
--- and no other two
+-- whole lines, followed by bytes without a line's end, are the `whole_part` of the two together
 pub whole_part-is : (front part : List ℕ) → IsClosed front → HasNoEnd part → whole_part (front ++ part) ≡ front
 whole_part-is front part (inl is) none =
     ap (λ l. whole_part (l ++ part)) is ∙ whole_part-none part (has_end-none part none) ∙ sym is
@@ -272,7 +272,7 @@ last_part-is front part (inr ends) none =
 
 -- the texts of items, cut anywhere before their end
 
--- n elements are the texts of the items before this one, and a front of its text that isn't the whole
+-- the first n elements are the texts of the items before this one, followed by a proper prefix of this item's text
 pub record CutsAt {X Y : Type 0} (text : X → List Y) (items : List X) (n : ℕ) : Type 0 where
   pub before : List X
   pub item : X

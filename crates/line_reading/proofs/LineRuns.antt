@@ -1,4 +1,4 @@
--- What was served of frames that are lines was answered of lines.
+-- If frames that are lines were served, the lines were answered.
 use Rattle.std.proofs.Common.{◌≡◌, ◌⊎◌, ◌<◌, ℕ, ℤ, List, [], ◌∷◌, ◌++◌, length, take, Bool, true, false, cond, eqb, Option, None, Some, inl, inr, refl, sym, ap, ◌∙◌, subst, append_assoc, arith, length-append}
 use Rattle.std.proofs.lemmas.List.{append-nil}
 use Rattle.std.proofs.Math.Seq.{take-length}
@@ -47,7 +47,7 @@ asks_last : (is_empty : Bool) (line : Line) → eqb (length line) 0 ≡ is_empty
 asks_last true line is = refl
 asks_last false line is = ap (λ (b : Bool). cond b [] (asked line ∷ [])) is
 
--- frames in front of the bytes are whole lines
+-- frames at the front of the bytes are whole lines
 record Lined (bytes : List ℕ) (frames : List Frame) (rest : List ℕ) : Type 0 where
   front : List ℕ
   parts : bytes ≡ front ++ rest
@@ -72,13 +72,13 @@ lined (frame ∷ frames) bytes rest is =
           ∙ ap (λ f. asks_of (f ∷ frames)) (sym is.1.2));
     }
 
--- and these are the lines that have ended, where none of the rest has
+-- these are the lines that have ended, if no line of the rest has
 lines-whole : (bytes front rest : List ℕ) → bytes ≡ front ++ rest → IsClosed front → HasNoEnd rest
     → lines (whole_part bytes) ≡ lines front
 lines-whole bytes front rest parts closed none = ap (λ xs. lines (whole_part xs)) parts
     ∙ ap lines (whole_part-is front rest closed none)
 
--- else they come before those of the rest
+-- otherwise they precede those of the rest
 whole_part-after : (front rest : List ℕ) → IsClosed front → whole_part (front ++ rest) ≡ front ++ whole_part rest
 whole_part-after front rest closed =
     ap (λ xs. whole_part (front ++ xs)) (sym (parts_of rest))
@@ -92,7 +92,7 @@ lines-after bytes front rest parts closed =
     ap (λ xs. lines (whole_part xs)) parts
     ∙ (ap lines (whole_part-after front rest closed) ∙ lines-closed front (whole_part rest) closed)
 
--- with the last line they are all
+-- with the last line they are all lines
 asks_to_end : (bytes rest : List ℕ) (frames : List Frame) → Lined bytes frames rest → HasNoEnd rest
     → asks_of_lines (lines bytes) ≡ asks_of (frames ++ want_of rest ∷ [])
 asks_to_end bytes rest frames is none =
@@ -116,7 +116,7 @@ none_written : (asks : List Asked) (written : List ℕ) → AreTextsOf asks [] w
 none_written [] written texts = texts
 none_written (ask ∷ asks) written texts = texts
 
--- a whole text, and then the texts of more replies
+-- a whole text, followed by the texts of more replies
 AreTextsOf-next : (ask : Asked) (asks : List Asked) (reply : Reply) (replies : List Reply) (written : List ℕ)
     → AreTextsOf asks replies written → AreTextsOf (ask ∷ asks) (reply ∷ replies) (reply_text ask reply ++ written)
 AreTextsOf-next ask asks reply [] written texts = (
@@ -132,7 +132,7 @@ whole_texts (ask ∷ asks) [] = refl
 whole_texts (ask ∷ asks) (reply ∷ replies) =
     AreTextsOf-next ask asks reply replies (reply_texts asks replies) (whole_texts asks replies)
 
--- of the last one a front
+-- the same with only a prefix of the last text
 cut_texts : (asks : List Asked) (ask : Asked) (replies : List Reply) (reply : Reply) (n : ℕ) → length asks ≡ length replies
     → AreTextsOf (asks ++ ask ∷ []) (replies ++ reply ∷ []) (reply_texts asks replies ++ take n (reply_text ask reply))
 cut_texts [] ask [] reply n same = (n, refl)
@@ -170,7 +170,7 @@ answered_all step start now bytes (rest, (frames, are, ran), none) =
     ran_lines step start now frames (lines (whole_part bytes))
     (ap asks_of_lines (lines-whole bytes is.front rest is.parts is.closed none) ∙ is.asks) ran
 
--- ---- what is meant by a last line for which there was no memory
+-- ---- what a last line means for which there was no memory
 
 abbrev pub SameSteps : {A : Type 0} → Steps A → Type 0
 SameSteps {A} step = (meant read : Asked) (old new : A) (moments : List ℤ) (reply : Reply) → ReadsAs meant read
@@ -249,7 +249,7 @@ answered_to_end step start now bytes same (frames, rest, frame, are, none, ends,
     (asks_to_end bytes rest frames (lined frames bytes rest are) none)
     (ran_to_end step start now frames rest frame same ends ran)
 
--- ---- a front of the lines was answered
+-- ---- a prefix of the lines was answered
 
 stopped_front : {A : Type 0} (step : Steps A) (start now : Progress A) (frames : List Frame) (want : Want Asked NoEnd)
     (all front rest : List Line) → all ≡ front ++ rest → asks_of_lines front ≡ asks_of (frames ++ Some want ∷ [])
@@ -280,7 +280,7 @@ stopped_front step start now frames want all front rest parts same stop =
       writes = subst G (texts_are frames stop.replies) stop.writes;
     }
 
--- of the lines that have ended
+-- a prefix of the lines that have ended
 stopped_whole : {A : Type 0} (step : Steps A) (start now : Progress A) (bytes rest after : List ℕ) (frames : List Frame)
     (want : Want Asked NoEnd) (part : List ℕ) → Frames line_rules bytes frames rest → Ends rest part after
     → Some want ≡ want_of (line_of part) → Stopped step line_rules start frames want now
@@ -316,7 +316,7 @@ stop_meant {A} step start now frames what want same wants is stop =
       writes = subst G text then.writes;
     }
 
--- of all lines, where the input has ended
+-- a prefix of all lines, if the input has ended
 stopped_last : {A : Type 0} (step : Steps A) (start now : Progress A) (bytes rest : List ℕ) (frames : List Frame)
     (want : Want Asked NoEnd) → SameSteps step → Frames line_rules bytes frames rest → HasNoEnd rest → IsReadOf rest (Some want)
     → Stopped step line_rules start frames want now → AnsweredFront step start (lines bytes) now
@@ -331,7 +331,7 @@ stopped_last step start now bytes rest frames want same are none (inr read) stop
     stopped_front step start now frames (wanted what) (lines bytes) (lines bytes) [] (sym (append-nil (lines bytes))) asks
     (stop_meant step start now frames what want same read.1 read.2 stop)
 
--- some of the lines that have ended, or of all where the input has
+-- a prefix of the lines that have ended was answered, or a prefix of all lines if the input has ended
 abbrev pub AnsweredSome : {A : Type 0} → Steps A → Progress A → List ℕ → Option (List ℕ) → Progress A → Type 0
 AnsweredSome step start bytes left now =
     AnsweredFront step start (lines (whole_part bytes)) now
@@ -344,7 +344,7 @@ answered_in_part step start now bytes left same (frames, rest, want, are, inl (a
 answered_in_part step start now bytes left same (frames, rest, want, are, inr (ended, none, last), stop) =
     inr (ended, stopped_last step start now bytes rest frames want same are none last stop)
 
--- all of them are some
+-- if all lines were answered, a prefix of them was
 pub all_front : {A : Type 0} (step : Steps A) (start now : Progress A) (all : List Line) → AnsweredLines step start all now
     → AnsweredFront step start all now
 all_front step start now all answered =

@@ -1,4 +1,4 @@
--- Frames of lines, one after the other.
+-- Consecutive frames of lines.
 use Rattle.std.proofs.Common.{◌≡◌, ◌<◌, ◌≤◌, ◌+◌, ℕ, List, [], ◌∷◌, ◌++◌, length, take, drop, Bool, true, false, cond, eqb, Option, None, Some, inl, inr, refl, sym, ap, ◌∙◌, subst, arith, length-drop}
 use Rattle.std.proofs.lemmas.Bool.Decides.{nat_tests}
 use Rattle.std.proofs.lemmas.List.{append-nil, drop-drop}
@@ -44,7 +44,7 @@ pub gathers_nothing : (bytes texts : List ℕ) → texts ≡ [] → Gathers byte
 gathers_nothing bytes texts none =
     record { frames = []; replies = []; are = refl; refused = tt; texts_are = none }
 
--- one line more, by what it wants
+-- one more line, by what it wants
 gathers_one : (bytes mid rest texts texts_now : List ℕ) (frame : Frame) (replies : List Reply) → Gathers bytes mid texts
     → IsLine mid frame rest → GoesOn frame → AreRefused line_rules (frame ∷ []) replies
     → texts_now ≡ texts ++ texts_of line_rules (frame ∷ []) replies → Gathers bytes rest texts_now
@@ -87,7 +87,7 @@ gathers_next block rest texts texts_now used end line is before ends line_is tak
     subst N after (gathers_line block rest (take end rest) (drop (end + 1) rest) texts texts_now (subst G (sym is) before) ends
     (subst T line_is taken))
 
--- so many bytes are there
+-- the next line is within the block
 pub next_within : (block rest : List ℕ) (used end : ℕ) → rest ≡ drop used block → used ≤ length block → end < length rest
     → used + (end + 1) ≤ length block
 next_within block rest used end is within some = omega (arith, ap length is, length-drop used block, within, some)

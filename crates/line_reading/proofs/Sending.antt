@@ -1,4 +1,4 @@
--- What a wire took, piece after piece.
+-- What a wire took, piece by piece.
 use Rattle.std.proofs.Common.{◌≡◌, ℕ, ◌+◌, ◌<◌, List, [], ◌∷◌, ◌++◌, length, take, drop, get_or, flat_map, Bor, Option, Result, Ok, Err, OnOk, OnErr, refl, sym, ap, ◌∙◌, append_assoc, arith, length-append, subst}
 use Rattle.std.proofs.lemmas.List.{append-nil, take-append-le, take-append-drop, take_more}
 use Rattle.std.proofs.lemmas.List.Concat.{flat_map-append}
@@ -16,7 +16,7 @@ Grows-front a b c xs ys first front =
     let P : List ℕ → Type 0 = λ zs. Grows a c zs in
     (length xs + n, within, subst P (sym (take-append-add xs ys n)) (Grows-join a b c xs (take n ys) first front.2))
 
--- a front of a list is a front of a longer one
+-- a proper prefix of a list is a proper prefix of a longer list
 pub WritesFront-longer : (a c : Option (List ℕ)) (xs ys : List ℕ) → WritesFront a c xs → WritesFront a c (xs ++ ys)
 WritesFront-longer a c xs ys front =
     let n = front.0 in
@@ -27,7 +27,7 @@ WritesFront-longer a c xs ys front =
           front.2,
     )
 
--- ---- what was sent and waits, with a piece more
+-- ---- what was sent and what waits, with one more piece
 
 pub Sends-then : (a b c : Option (List ℕ)) (all waits piece more : List ℕ) → Sends a b all waits
     → Sends b c (waits ++ piece) more → Sends a c (all ++ piece) more
@@ -46,7 +46,7 @@ Sends-front a b c all waits piece first front =
     subst P (sym (append_assoc first.0 waits piece) ∙ ap (λ xs. xs ++ piece) (sym first.2))
     (Grows-front a b c first.0 (waits ++ piece) first.1 front)
 
--- what waits was sent, or refused
+-- what waits was sent, or only a prefix of it
 pub sends_rest : {E : Type 0} (a b c : Option (List ℕ)) (all waits : List ℕ) (result : Result (Unit {0}) E)
     → Sends a b all waits → IsSent b c waits result → IsSent a c all result
 sends_rest a b c all waits (Ok done) first grown =
@@ -90,7 +90,7 @@ pub pieces_rest : (pieces : List (Bor (List ℕ))) (i : ℕ)
 pieces_rest pieces i = sym (flat_map-append (λ (piece : Bor (List ℕ)). piece.now) (take i pieces) (drop i pieces))
     ∙ ap (flat_map (λ piece. piece.now)) (take-append-drop i pieces)
 
--- a piece that was refused, and the pieces that were to come after it
+-- a piece that wasn't written whole, and the pieces that were to come after it
 pub refused : (a b c : Option (List ℕ)) (pieces : List (Bor (List ℕ))) (i : ℕ) (d : Bor (List ℕ)) (held waits : List ℕ)
     → i < length pieces
     → Sends a b (held ++ flat_map (λ piece. piece.now) (take i pieces)) waits
@@ -108,7 +108,7 @@ refused a b c pieces i d held waits within sent front =
     subst P whole (WritesFront-longer a c ((held ++ done) ++ here) rest
     (Sends-front a b c (held ++ done) waits here sent front))
 
--- ---- where nothing waits
+-- ---- nothing waits
 
 pub sent_then : (a b c : Option (List ℕ)) (all piece : List ℕ) → Sends a b all [] → Grows b c piece
     → Sends a c (all ++ piece) []

@@ -18,7 +18,7 @@ use Rattle.line_reading.specs.declared.framing.NoEnd.{NoEnd}
 
 -- ---- what a line wants
 
--- What is asked, where the session goes on after the reply.
+-- What a line wants that asks this: the session goes on after the reply.
 abbrev pub wanted : Asked → Want Asked NoEnd
 wanted what = record { asked = what; ends = None }
 
@@ -26,11 +26,11 @@ wanted what = record { asked = what; ends = None }
 abbrev pub want_of : Line → Option (Want Asked NoEnd)
 want_of line = if length line == 0 then None else Some (wanted (asked line))
 
--- The bytes begin with a line and its end, which wants this.
+-- The bytes start with a line and its end, and the line wants this.
 abbrev pub IsLine : List ℕ → Option (Want Asked NoEnd) → List ℕ → Type 0
 IsLine bytes frame rest = (part : List ℕ) × Ends bytes part rest × (frame ≡ want_of (line_of part))
 
--- What a line wants was read so.
+-- What was read of a line is what it wants, or a refusal if there was no memory for what it asks.
 abbrev pub IsReadOf : Line → Option (Want Asked NoEnd) → Type 0
 IsReadOf line frame =
     (frame ≡ want_of line)
@@ -48,7 +48,7 @@ line_rules = record {
   text = λ want reply. reply_text want.asked reply;
 }
 
--- A line with its end stays one where more bytes come after it.
+-- A line with its end stays one if more bytes follow it.
 pub line_whole_on : (bytes rest more : List ℕ) (frame : Option (Want Asked NoEnd)) → IsLine bytes frame rest
     → IsLine (bytes ++ more) frame (rest ++ more)
 line_whole_on bytes rest more frame is = (
@@ -62,8 +62,8 @@ line_whole_on bytes rest more frame is = (
 
 -- ---- what is held of a line
 
--- These bytes have no line's end up to where they were searched, and all of them are held; or those of a line that is
--- too long were dropped, and what came after them is held.
+-- These bytes have no line's end up to where they were searched, and all of them are held. Or the bytes of a line that
+-- is too long were dropped, and what came after them is held.
 abbrev pub Holds : Bool → ℕ → List ℕ → List ℕ → Type 0
 Holds false seen held bytes = (held ≡ bytes) × (seen ≤ length held) × HasNoEnd (take seen held)
 Holds true seen held bytes =
@@ -71,15 +71,15 @@ Holds true seen held bytes =
 
 -- ---- lines that are refused
 
--- A line was taken: it is empty, or it is refused, and the bytes of its reply stand after these.
+-- A line was taken: it is empty, or it is refused and the bytes of its reply were appended to these.
 abbrev pub TakesLine : Line → List ℕ → List ℕ → Type 0
 TakesLine line texts texts_now =
     ((length line ≡ 0) × (texts_now ≡ texts))
     ⊎ ((0 < length line) × (refusal : Refusal) × (asked line ≡ Refuse refusal)
     × (texts_now ≡ texts ++ reply_bytes (Words refusal) false))
 
--- The bytes begin with lines that are empty or refused, and go on with the rest. These are the bytes of the replies to
--- them.
+-- The bytes start with lines that are empty or refused, and continue with the rest. These are the bytes of the replies
+-- to them.
 pub record Gathers (bytes rest texts : List ℕ) : Type 0 where
   pub frames : List (Option (Want Asked NoEnd))
   pub replies : List Reply

@@ -1,4 +1,4 @@
--- What was answered of lines, by any answerer.
+-- How lines were answered, by any answerer.
 use Rattle.std.specs.Prelude.{◌≡◌, ℕ, ℤ, List, [], ◌∷◌, ◌++◌, length, take, ◌==◌, if◌then◌else◌}
 use Rattle.lei_outside.specs.Told.{Grows}
 use Rattle.register_words.specs.declared.reply.Reply.{Reply}
@@ -16,7 +16,7 @@ asks_of_lines [] = []
 asks_of_lines (line ∷ others) = if length line == 0 then asks_of_lines others else asked line
     ∷ asks_of_lines others
 
--- The texts of the replies to what was asked in order, of the last one perhaps a front alone.
+-- The texts of the replies to what was asked, in order. Of the last text perhaps only a prefix is there.
 abbrev pub AreTextsOf : List Asked → List Reply → List ℕ → Type 0
 AreTextsOf [] replies written = written ≡ []
 AreTextsOf (asked ∷ asks) [] written = written ≡ []
@@ -24,8 +24,8 @@ AreTextsOf (asked ∷ asks) (reply ∷ []) written = (n : ℕ) × (written ≡ t
 AreTextsOf (asked ∷ asks) (reply ∷ next ∷ replies) written =
     (rest : List ℕ) × (written ≡ reply_text asked reply ++ rest) × AreTextsOf asks (next ∷ replies) rest
 
--- From the start on these lines were answered, in order, at moments of the clock, and what was written are the replies,
--- in order.
+-- Since the start these lines were answered, in order, at moments of the clock. The bytes that were written are the
+-- replies, in order.
 pub record AnsweredLines {A : Type 0} (step : A → Asked → List ℤ → Reply → A → Type 0) (start : Progress A)
     (all : List Line)
     (now : Progress A) : Type 0 where
@@ -35,8 +35,8 @@ pub record AnsweredLines {A : Type 0} (step : A → Asked → List ℤ → Reply
   pub session : Session step start.who (asks_of_lines all) moments replies now.who
   pub writes : Grows start.written now.written (reply_texts (asks_of_lines all) replies)
 
--- The same of a front of these lines alone: what was written are the replies to them, and of the last one perhaps a
--- front.
+-- The same for only a prefix of these lines. The bytes that were written are the replies to them, and of the last
+-- reply perhaps only a prefix.
 pub record AnsweredFront {A : Type 0} (step : A → Asked → List ℤ → Reply → A → Type 0) (start : Progress A)
     (all : List Line)
     (now : Progress A) : Type 0 where

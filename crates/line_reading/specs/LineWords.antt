@@ -1,11 +1,11 @@
--- What the code reads of a line, with the body of an upload where it stands.
+-- What the code reads of a line, with the body of an upload borrowed from the line.
 use Rattle.register_words.specs.declared.request.Asked.{Asked}
 use Rattle.register_words.specs.declared.request.Asked.TheVariants.{Ask, Refuse}
 use Rattle.register_words.specs.declared.request.Request.TheVariants.{Upload}
 use Rattle.line_reading.specs.declared.requests.LineWords.{LineWords}
 use Rattle.line_reading.specs.declared.requests.LineWords.TheVariants as words
 
--- What that asks.
+-- What these words ask.
 abbrev pub asked_of : LineWords → Asked
 asked_of (words.Refused refusal) = Refuse refusal
 asked_of (words.Upload office number body) = Ask

@@ -1,5 +1,5 @@
--- The lines of bytes. A line ends at LF, the byte 10, or at the end of the bytes, and one CR, the byte 13, before
--- the LF belongs to the end: std's `lines` lists them. Behind the last LF stands no line where there is no byte.
+-- The lines of bytes. A line ends at LF, the byte 10, or at the end of the bytes. One CR, the byte 13, before the LF
+-- belongs to the end. std's `lines` lists the lines. After the last LF there is no line if there is no byte.
 use Rattle.std.specs.Prelude.{◌≡◌, ◌≢◌, ℕ, ◌⊎◌, ◌==◌, Bool, List, [], ◌∷◌, ◌++◌, if◌then◌else◌}
 use Rattle.std.specs.List.{All, list_any}
 use Rattle.std.specs.Str.Lines.{strip_carriage_return}
@@ -12,7 +12,7 @@ Line = List ℕ
 abbrev pub line_feed : List ℕ
 line_feed = 10 ∷ []
 
--- CR, which may stand before an LF.
+-- CR, which may precede an LF.
 abbrev pub carriage_return : List ℕ
 carriage_return = 13 ∷ []
 
@@ -20,7 +20,7 @@ carriage_return = 13 ∷ []
 abbrev pub HasNoEnd : List ℕ → Type 0
 HasNoEnd bytes = All (λ byte. byte ≢ 10) bytes
 
--- These are whole lines with their ends: there is no byte, or the last is LF.
+-- These are whole lines with their ends: there is no byte, or the last byte is LF.
 abbrev pub IsClosed : List ℕ → Type 0
 IsClosed bytes = (bytes ≡ []) ⊎ ((before : List ℕ) × (bytes ≡ before ++ 10 ∷ []))
 
@@ -28,7 +28,7 @@ IsClosed bytes = (bytes ≡ []) ⊎ ((before : List ℕ) × (bytes ≡ before ++
 abbrev pub line_of : List ℕ → Line
 line_of part = strip_carriage_return part
 
--- The bytes are a part before the first LF, the LF, and what comes after it.
+-- The bytes are a part before the first LF, the LF, and what follows it.
 pub record Ends (bytes part after : List ℕ) : Type 0 where
   pub parts : bytes ≡ (part ++ 10 ∷ []) ++ after
   pub none : HasNoEnd part
@@ -37,12 +37,12 @@ pub record Ends (bytes part after : List ℕ) : Type 0 where
 abbrev pub has_end : List ℕ → Bool
 has_end bytes = list_any (λ byte. byte == 10) bytes
 
--- The bytes up to the last LF, with it.
+-- The bytes up to and including the last LF.
 unfoldable pub whole_part : List ℕ → List ℕ
 whole_part [] = []
 whole_part (byte ∷ bytes) = if has_end (byte ∷ bytes) then byte ∷ whole_part bytes else []
 
--- The bytes behind the last LF.
+-- The bytes after the last LF.
 unfoldable pub last_part : List ℕ → List ℕ
 last_part [] = []
 last_part (byte ∷ bytes) = if has_end (byte ∷ bytes) then last_part bytes else byte ∷ bytes

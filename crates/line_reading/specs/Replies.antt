@@ -19,22 +19,22 @@ wants_file (requests.Copy sheet form) = true
 wants_file (requests.Delta base sheet form) = true
 wants_file requests.Status = false
 
--- A file is asked for.
+-- Whether what is asked is a file.
 abbrev pub asks_file : Asked → Bool
 asks_file (Refuse refusal) = false
 asks_file (Ask request) = wants_file request
 
--- What a reply tells behind its status code: a text, with the number of its bytes in a line before it where it is a
--- file, or a refusal in words.
+-- What a reply says after its status code: a text, or a refusal in words. If the text is a file, the number of its
+-- bytes and the end of a line come before it.
 abbrev pub told : Reply → Bool → List ℕ
 told (replies.Text code kind text) is_file = if is_file then decimal (length text) ++ 10 ∷ text else text
 told (replies.Words refusal) is_file = refusal_words refusal
 
--- The bytes of a reply: its status code, a space, what it tells, and the end of the line.
+-- The bytes of a reply: its status code, a space, what it says, and the end of the line.
 unfoldable pub reply_bytes : Reply → Bool → List ℕ
 reply_bytes reply is_file = decimal (reply_status_code reply) ++ 32 ∷ (told reply is_file ++ 10 ∷ [])
 
--- The bytes of the reply to what was asked. Of what was asked it matters alone whether that is a file.
+-- The bytes of the reply to what was asked. All that matters of what was asked is whether it is a file.
 abbrev pub reply_text : Asked → Reply → List ℕ
 reply_text asked reply = reply_bytes reply (asks_file asked)
 

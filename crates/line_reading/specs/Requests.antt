@@ -13,17 +13,17 @@ use Rattle.line_reading.specs.declared.requests.FirstWord.{FirstWord}
 use Rattle.line_reading.specs.declared.requests.FirstWord.TheVariants.{Accredit, Upload, Kept, Publish, Show, Copy, Delta, Status}
 
 infixl 10 ◌>>=◌
--- What is made of a value, where there is one.
+-- What a function makes from a value, if there is one.
 abbrev pub ◌>>=◌ : {A B : Type 0} → Option A → (A → Option B) → Option B
 o >>= f = option_and_then f o
 
 -- ---- words
 
--- The bytes before the first space and those behind it, where there is a space.
+-- The bytes before the first space and those after it, if there is a space.
 abbrev pub cut : List ℕ → Option (List ℕ × List ℕ)
 cut bytes = option_map (λ n. (take n bytes, drop (n + 1) bytes)) (position (λ b. b == 32) bytes)
 
--- ---- requests, by what stands behind the first word and its space
+-- ---- requests, by what follows the first word and its space
 
 -- ACCREDIT: the rest is an LEI.
 abbrev pub accreditation_of : List ℕ → Option Request
@@ -63,7 +63,7 @@ kept_of rest = do
   number ← number_of parts.1
   Some (requests.Kept issuer number)
 
--- UPLOAD: an LEI, a number, and all that follows the space behind it as the body.
+-- UPLOAD: an LEI, a number, and as the body all that follows the space after the number.
 unfoldable pub upload_of : List ℕ → Option Request
 upload_of rest = do
   first ← cut rest
@@ -72,7 +72,7 @@ upload_of rest = do
   number ← number_of second.0
   Some (requests.Upload (record { office = office; number = number; body = second.1 }))
 
--- The first words of lines that ask something, each as it is written. Another word is none.
+-- The first words of lines that ask something, exactly as written. Any other word is none of them.
 abbrev pub first_word : List ℕ → Option FirstWord
 first_word word =
     if bytes_eq word (codes "ACCREDIT") then Some Accredit
@@ -84,7 +84,7 @@ first_word word =
     else (if bytes_eq word (codes "DELTA") then Some Delta
     else (if bytes_eq word (codes "STATUS") then Some Status else None)))))))
 
--- The request that a first word makes alone: STATUS, to which no other word belongs.
+-- The request that a first word makes alone: only STATUS makes one, and no other word belongs to it.
 abbrev pub request_alone : FirstWord → Option Request
 request_alone Accredit = None
 request_alone Upload = None
@@ -95,7 +95,7 @@ request_alone Copy = None
 request_alone Delta = None
 request_alone Status = Some requests.Status
 
--- The request that a first word makes with what stands behind its space.
+-- The request that a first word makes with what follows its space.
 abbrev pub request_with : FirstWord → List ℕ → Option Request
 request_with Accredit rest = accreditation_of rest
 request_with Upload rest = upload_of rest
@@ -106,29 +106,29 @@ request_with Copy rest = copy_of rest
 request_with Delta rest = delta_of rest
 request_with Status rest = None
 
--- The request that a first word makes with what stands behind its space, where there is a space.
+-- The request that a first word makes with what follows its space, if there is a space.
 abbrev pub request_by : FirstWord → Option (List ℕ) → Option Request
 request_by word None = request_alone word
 request_by word (Some rest) = request_with word rest
 
 -- ---- lines
 
--- A request is asked, or the words behind the first one are not those of a request.
+-- A request is asked, or the words after the first one aren't those of a request.
 abbrev pub or_path : Option Request → Asked
 or_path None = Refuse Path
 or_path (Some request) = Ask request
 
--- What is asked by a first word and what stands behind its space.
+-- What is asked by a first word and what follows its space.
 abbrev pub asked_by : Option FirstWord → Option (List ℕ) → Asked
 asked_by None rest = Refuse NoRoute
 asked_by (Some word) rest = or_path (request_by word rest)
 
--- The same, of a line that was cut at its first space if it has one.
+-- The same for a line that was cut at its first space, if it has one.
 abbrev pub asked_in : Line → Option (List ℕ × List ℕ) → Asked
 asked_in line None = asked_by (first_word line) None
 asked_in line (Some parts) = asked_by (first_word parts.0) (Some parts.1)
 
--- The first of these: the line is too long; its first word is unknown; its other words are not those of a request;
--- or what it asks.
+-- The first of these that applies: the line is too long, its first word is unknown, or its other words aren't those of
+-- a request. Otherwise what it asks.
 unfoldable pub asked : Line → Asked
 asked line = if nat_lt line_limit (length line) then Refuse TooLong else asked_in line (cut line)

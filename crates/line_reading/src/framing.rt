@@ -17,14 +17,14 @@ use std::alloc::Global;
 pub enum NoEnd {}
 
 /// Cuts an input into lines. Each line that asks a request is a frame of its own. Lines that ask nothing or are refused
-/// are taken together, as far as they are held, and the replies to them wait to be sent at once. A line that is too
+/// are taken together, as far as they are held, and the replies to them wait to be sent together. A line that is too
 /// long isn't held.
 #[derive(Drop)]
 pub struct LineFraming {
     pub alloc: Global,
-    /// Whether the line that has no end yet is too long, and its bytes are skipped.
+    /// Whether the line that hasn't ended yet is too long, so that its bytes are skipped.
     pub skips: bool,
-    /// So many of the held bytes have no line's end.
+    /// How many of the held bytes were searched and have no line's end.
     pub seen: usize,
     /// The replies to lines that were refused.
     pub refusals: WriteBuffer,
@@ -52,7 +52,7 @@ impl LineFraming {
         })
     }
 
-    // Reads on in a line that is too long.
+    // Reads more of a line that is too long.
     fn skip(&mut self, held: &[u8]) -> Front<Asked, NoEnd>
         requires skips { self.old.skips ≡ true }
         requires none { self.old.refusals ≡ [] }
@@ -70,7 +70,7 @@ impl LineFraming {
         }
     }
 
-    // Waits for the end of a line that these bytes begin.
+    // Waits for the end of the line that these bytes start.
     fn wait(&mut self, held: &[u8]) -> Front<Asked, NoEnd>
         requires skips { self.old.skips ≡ false }
         requires none { self.old.refusals ≡ [] }
@@ -146,7 +146,7 @@ impl Framing for LineFraming {
     ghost whole_on = { line_whole_on };
 }
 
-// What a line wants that is refused.
+// What a refused line wants.
 fn refusal_of(refusal: Refusal) -> Want<Asked, NoEnd>
     ensures { result ≡ wanted (Asked.Refuse refusal) }
 {
@@ -156,7 +156,8 @@ fn refusal_of(refusal: Refusal) -> Want<Asked, NoEnd>
     }
 }
 
-// What a line wants, and nothing if it is empty. Where there is no memory for the body of an upload, it is refused.
+// What a line wants, which is nothing if it is empty. If there is no memory for the body of an upload, the line is
+// refused.
 fn read_line(alloc: Global, line: &[u8]) -> Option<Want<Asked, NoEnd>>
     ensures { IsReadOf line.now result }
 {
@@ -170,7 +171,7 @@ fn read_line(alloc: Global, line: &[u8]) -> Option<Want<Asked, NoEnd>>
 }
 
 // Takes the lines at the front of the bytes that ask nothing or are refused, as long as there is room for the replies.
-// The first `seen` bytes have no line's end. Says how many bytes these lines take.
+// The first `seen` bytes have no line's end. Returns how many bytes these lines have, with their ends.
 fn gather(refusals: &mut WriteBuffer, held: &[u8], mut seen: usize) -> usize
     requires none { refusals.old ≡ [] }
     requires within { seen ≤ length held.now }

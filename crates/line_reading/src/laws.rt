@@ -3,8 +3,8 @@ ghost use Rattle.std.specs.Prelude.{◌≡◌, [], ◌∷◌, ◌++◌, codes};
 ghost use Rattle.std.specs.Str.Lines.{lines};
 ghost use Rattle.line_reading.specs.Lines.{carriage_return, line_feed};
 
-/// What std's `lines` makes of the ends of lines, by worked inputs: LF ends a line, and one CR before it belongs to the
-/// end. Behind the last LF a line stands only where there is a byte, and a CR there stays in it.
+/// How std's `lines` treats the ends of lines, by worked inputs: LF ends a line, and one CR before it belongs to the
+/// end. After the last LF there is a line only if there is a byte, and a CR at its end stays in it.
 pub fn lines_end_at_line_feeds()
     ensures each { lines (codes "one" ++ line_feed ++ codes "two" ++ line_feed)
         ≡ codes "one" ∷ codes "two" ∷ [] }

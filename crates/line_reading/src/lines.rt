@@ -1,4 +1,4 @@
-//! Where lines end.
+//! Finds where lines end.
 ghost use Rattle.std.specs.Prelude.{◌≡◌, ◌≤◌, ◌<◌, ◌+◌, length, take, drop, IfSome, IfNone};
 ghost use Rattle.line_reading.specs.Lines.{HasNoEnd, Ends, line_of};
 
@@ -14,7 +14,7 @@ pub fn line_of(part: &[u8]) -> &[u8]
     }
 }
 
-/// Where the next line ends, if the first `seen` bytes have no line's end. They aren't searched.
+/// Where the next line ends, if the first `seen` bytes, which aren't searched, have no line's end.
 pub fn next_end(rest: &[u8], seen: usize) -> Option<usize>
     requires { seen ≤ length rest.now }
     ensures found { HasNoEnd (take seen rest.now)

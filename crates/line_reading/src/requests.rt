@@ -1,4 +1,4 @@
-//! What a line asks.
+//! Reads what a line asks.
 ghost use Rattle.std.specs.Prelude.{◌≡◌, None, Some, option_map, option_and_then, position, length, ◌==◌, ◌<◌, IfOk, IfSome, OnErr};
 ghost use Rattle.std.specs.Option.{option_copied};
 ghost use Rattle.register_words.specs.Readings.{MayWantMemory};
@@ -15,7 +15,7 @@ use std::alloc::Global;
 /// The greatest length of a line, without its end, in bytes. This project's profile.
 pub const MAX_LINE: usize = 4_194_340;
 
-/// What a line asks, with the body of an upload where it stands in the line.
+/// What a line asks, with the body of an upload borrowed from the line.
 #[derive(Drop)]
 pub enum LineWords<'a> {
     Refused(Refusal),
@@ -44,7 +44,7 @@ fn first_space(bytes: &[u8]) -> Option<usize>
     bytes.iter().position(|byte| *byte == b' ')
 }
 
-/// The bytes before the first space and those behind it, if there is one.
+/// The bytes before the first space and those after it, if there is a space.
 pub fn cut(bytes: &[u8]) -> Option<(&[u8], &[u8])>
     ensures { option_map (λ parts. (parts.0.now, parts.1.now)) result ≡ cut bytes.now }
 {
@@ -54,7 +54,7 @@ pub fn cut(bytes: &[u8]) -> Option<(&[u8], &[u8])>
     }
 }
 
-// An upload, with its body where it stands.
+// An upload, with its body borrowed from the line.
 #[tactic(auto, unfolding(crate::specs::Requests::upload_of))]
 fn upload_of(rest: &[u8]) -> LineWords<'_>
     ensures { asked_of result ≡ or_path (upload_of rest.now) }
@@ -171,7 +171,7 @@ fn first_word(word: &[u8]) -> Option<FirstWord>
     None
 }
 
-// A request, or the refusal of the words behind the first one.
+// A request, or the refusal of the words after the first one.
 fn or_path(request: Option<Request>) -> LineWords<'static>
     ensures { asked_of result ≡ or_path request }
 {
@@ -192,7 +192,7 @@ fn asked_alone(word: Option<FirstWord>) -> LineWords<'static>
     }
 }
 
-// What a first word asks with what stands behind its space.
+// What a first word asks with what follows its space.
 fn asked_with(word: Option<FirstWord>, rest: &[u8]) -> LineWords<'_>
     ensures { asked_of result ≡ asked_by word (Some rest.now) }
 {
@@ -209,7 +209,7 @@ fn asked_with(word: Option<FirstWord>, rest: &[u8]) -> LineWords<'_>
     }
 }
 
-/// What the words of a line ask, without its end. It takes no memory.
+/// What the words of a line ask, without the line's end. It allocates nothing.
 #[tactic(auto, unfolding(crate::specs::Requests::asked))]
 pub fn words_of(line: &[u8]) -> LineWords<'_>
     ensures { asked_of result ≡ asked line.now }
@@ -223,8 +223,8 @@ pub fn words_of(line: &[u8]) -> LineWords<'_>
     }
 }
 
-/// What a line asks, without its end: a request, or the refusal that is its reply. Its one error is want of memory
-/// for the body of an upload.
+/// What a line asks, without its end: a request, or the refusal that is its reply. The only error is that there is no
+/// memory for the body of an upload.
 pub fn line_request(alloc: Global, line: &[u8]) -> Result<Asked, NoMemory>
     ensures ok { IfOk result (λ found. found ≡ asked line.now) }
     ensures err { OnErr result (MayWantMemory (asked line.now)) }

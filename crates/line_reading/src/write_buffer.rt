@@ -1,4 +1,4 @@
-//! Replies that wait to be written, so that writing goes by blocks.
+//! A buffer of replies that wait to be written, so that they are written in blocks.
 ghost use Rattle.std.specs.Prelude.{◌≡◌, ◌≤◌, ◌+◌, ◌++◌, [], length, vec_len, vec_capacity, IfOk, OnOk, OnErr, IsErrOf};
 ghost use Rattle.lei_outside.specs.Told.{Grows, WritesFront};
 ghost use Rattle.lei_outside.specs.Faults.{FailsLast};
@@ -11,10 +11,10 @@ use request_loop::{Wire, send_piece};
 use std::alloc::Global;
 use std::marker::Model;
 
-/// How many bytes are read or written at a time.
+/// The bytes of a block: how many are read or written at a time.
 pub const BLOCK: usize = 65_536;
 
-/// Bytes that wait to be written, at most a block. Contracts see it as their list.
+/// Bytes that wait to be written, at most a block. Contracts see them as a list.
 #[derive(Drop)]
 pub struct WriteBuffer {
     held: Vec<u8>,
@@ -32,7 +32,7 @@ impl Model for WriteBuffer {
 }
 
 impl WriteBuffer {
-    /// An empty buffer, with the memory that it will ever take.
+    /// An empty buffer, which allocates all the memory that it will ever take.
     pub fn new(alloc: Global) -> Result<Self, NoMemory>
         ensures { IfOk result (λ b. b ≡ []) }
     {
@@ -41,14 +41,14 @@ impl WriteBuffer {
         })
     }
 
-    /// The room that is left.
+    /// The room that is left, in bytes.
     pub(crate) fn room(&self) -> usize
         ensures { result + length self.now ≡ BLOCK }
     {
         BLOCK - self.held.len()
     }
 
-    /// Puts a piece after what waits, where it has room.
+    /// Appends a piece to what waits. There must be room for it.
     pub(crate) fn append(&mut self, piece: &[u8])
         requires { length self.old + length piece.now ≤ BLOCK }
         ensures { self.new ≡ self.old ++ piece.now }
@@ -56,7 +56,7 @@ impl WriteBuffer {
         append(&mut self.held, piece);
     }
 
-    /// Puts a piece after what waits, and sends what has no room. A piece of more than a block isn't copied.
+    /// Appends a piece to what waits, and sends what has no room. A piece of more than a block isn't copied.
     pub(crate) fn put<L: Wire>(&mut self, link: &mut L, piece: &[u8]) -> Result<(), SinkFault>
         ensures ok { OnOk result (Sends (L.written link.old) (L.written link.new)
             (self.old ++ piece.now) self.new) }

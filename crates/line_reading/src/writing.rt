@@ -1,4 +1,4 @@
-//! Replies as they are written.
+//! Writes replies.
 ghost use Rattle.std.specs.Prelude.{◌≡◌, [], ◌++◌, flat_map, false, IfSome, IsErrOf};
 ghost use Rattle.lei_outside.specs.Faults.{FailsLast};
 ghost use Rattle.lei_outside.specs.Links.{told_by};
@@ -12,7 +12,7 @@ use lei_outside::SinkFault;
 use register_words::{Asked, Refusal, Reply, Request};
 use request_loop::Wire;
 
-/// The whole reply that is a refusal of a line's words.
+/// The whole reply that refuses a line's words. There is none for any other refusal.
 #[tactic(auto, unfolding(crate::specs::Replies::reply_bytes))]
 pub fn refusal_line(refusal: Refusal) -> Option<&'static [u8]>
     ensures { IfSome result (λ line. line.now ≡ reply_bytes (Reply.Words refusal) false) }
@@ -25,8 +25,8 @@ pub fn refusal_line(refusal: Refusal) -> Option<&'static [u8]>
     }
 }
 
-/// Writes a reply, by one write where it fits in a block. Where its text is a file, the number of its bytes stands in a
-/// line before it.
+/// Writes a reply, in one piece if it fits in a block. If its text is a file, the status code is followed by the number
+/// of the text's bytes, and the text starts in the next line.
 pub fn send_reply<L: Wire>(
     buffer: &mut WriteBuffer,
     link: &mut L,
@@ -46,7 +46,7 @@ pub fn send_reply<L: Wire>(
     buffer.flush(link)
 }
 
-/// Whether a file is asked for.
+/// Whether what is asked is a file.
 pub fn asks_file(asked: &Asked) -> bool
     ensures { result ≡ asks_file asked.now }
 {
@@ -63,8 +63,8 @@ fn wants_file(request: &Request) -> bool
     matches!(request, Request::Copy(_, _) | Request::Delta(_, _, _))
 }
 
-// Puts a reply: its status code, a space, its text and the end of the line. Where its text is a file, the number of its
-// bytes stands in a line before it.
+// Puts a reply: its status code, a space, its text and the end of the line. If its text is a file, the number of the
+// text's bytes and the end of a line come before the text.
 #[tactic(auto, unfolding(crate::specs::Replies::reply_bytes))]
 fn put_reply<L: Wire>(
     buffer: &mut WriteBuffer,
@@ -107,7 +107,7 @@ fn put_reply<L: Wire>(
     }
 }
 
-/// Puts pieces after what waits, one after the other, and sends what has no room.
+/// Appends pieces to what waits, one after the other, and sends what has no room.
 pub fn put_all<L: Wire>(
     buffer: &mut WriteBuffer,
     link: &mut L,

@@ -34,7 +34,7 @@ mirror_fits = record {
   refused = λ asked who reply is. absurd is;
 }
 
--- ---- a step of who answers
+-- ---- a step of the server
 
 pub show_step : (state : MirrorState) (asked : MirrorAsked) (query : ShowQuery) (reply : QueryReply)
     → asked ≡ QueryAsked.Query query → ShowStep state query.sheet reply → MirrorStep state asked [] reply state

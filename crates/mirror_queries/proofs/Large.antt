@@ -1,4 +1,4 @@
--- Numbers of packets that are too large.
+-- Sizes that are too large for a packet.
 use Rattle.std.proofs.Common.{◌≡◌, ℕ, ◌≤◌, ◌<◌, List, Some, None, Bool, true, ◌&&◌, cond, leb, decimal, bytes_eq, Result, Ok, Err, refl, sym, ap, ◌∙◌, subst, arith}
 use Rattle.std.proofs.lemmas.Bool.Decides.{nat_tests}
 use Rattle.std.proofs.lemmas.Fmt.{decimal_is_IsNumeral, parse-decimal, IsAscii-decimal}
@@ -13,7 +13,7 @@ use Rattle.mirror_queries.specs.Grammar.{large_of}
 passes_all : (a b c : Bool) → a ≡ true → b ≡ true → c ≡ true → (a && b && c) ≡ true
 passes_all a b c x y z = rw (x, y, z) refl
 
--- the decimal text of a number of the range stands for it
+-- the decimal text of a number in the range is read as this number
 pub large-decimal : (word : List ℕ) (n : ℕ) → 536_870_912 < n → n ≤ 9_999_999_999 → word ≡ decimal n
     → large_of word ≡ Some n
 unfolding number_within
@@ -40,7 +40,7 @@ large-not_parsed word parsed =
     let read : found ≡ Ok n = parse-decimal 64 n word found (omega (arith, below)) (omega (arith, below)) is parsed in
     cc)
 
--- what was read is out of range, or isn't written so
+-- the number that was read is out of the range, or the word isn't its decimal text
 pub large-other : (word : List ℕ) (number : ℕ) → ParsesUnsigned {E = Unit {0}} 64 10 word (Ok number)
     → (536_870_912 < number → number ≤ 9_999_999_999 → word ≡ decimal number → ⊥) → large_of word ≡ None
 large-other word number parsed never =

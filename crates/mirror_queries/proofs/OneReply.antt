@@ -1,4 +1,4 @@
--- At a mirror a query has one reply.
+-- For a mirror and a query there is one reply.
 use Rattle.std.proofs.Common.{◌≡◌, ◌⊎◌, ◌<◌, ◌^◌, ℤ, List, length, true, false, Some, inl, inr, sym, ap, ◌∙◌, subst, arith}
 use Rattle.std.proofs.lemmas.Bool.{false≢true}
 use Rattle.lei_code.specs.Texts.{Text}
@@ -14,7 +14,7 @@ use Rattle.mirror_queries.specs.Answering.{LacksMemory, MirrorAsked, MirrorStep,
 use Rattle.mirror_queries.specs.Sizes.{IsShort}
 use Rattle.mirror_queries.specs.declared.grammar.PacketHead.{PacketHead}
 
--- the same, but that memory ran out for the one or the other
+-- the replies and the next mirrors are the same, unless memory ran out for one of them
 abbrev OneOf : MirrorState → QueryReply → MirrorState → QueryReply → MirrorState → Type 0
 OneOf state reply new other next =
     LacksMemory state reply new ⊎ LacksMemory state other next ⊎ ((reply ≡ other) × (new ≡ next))

@@ -32,7 +32,7 @@ Frame = Option (Want MirrorAsked NoEnd)
 some_same : (one other : MirrorAsked) → Some one ≡ Some other → one ≡ other
 some_same one other is = cc
 
--- no session is ended by what is asked
+-- nothing that is asked ends a session
 goes_on : (end : Option NoEnd) → end ≡ None
 goes_on None = refl
 goes_on (Some end) = elim end [ ]
@@ -41,7 +41,7 @@ frame_goes_on : (frame : Frame) → GoesOn frame
 frame_goes_on None = tt
 frame_goes_on (Some want) = goes_on want.ends
 
--- a line without its packet asks for none
+-- a line without its packet doesn't ask for one to be taken
 last_of_trail : (trail : Trail) (meaning : Option MirrorMeaning) (asked : MirrorAsked)
     → asked_at_end meaning ≡ Some asked → IsAskedOfTrail trail asked
 last_of_trail trail meaning asked is = by meaning asked is
@@ -59,7 +59,7 @@ last_of_trail trail meaning asked is = by meaning asked is
     by (Some (LineMeaning.Packet head size)) asked is = at (QueryAsked.Refuse _) asked is tt
     by (Some (LineMeaning.Skipped refusal size)) asked is = at (QueryAsked.Refuse refusal) asked is tt
 
--- what was read of it
+-- what was read from such a line
 read_of_trail : (trail : Trail) (meaning : Option MirrorMeaning) (read : Option MirrorAsked)
     → IsReadAs (asked_at_end meaning) read → All (IsAskedOfTrail trail) (asks_of (option_map wanted read ∷ []))
 read_of_trail trail meaning None reads = All-nil (IsAskedOfTrail trail)
@@ -71,14 +71,14 @@ read_of_trail trail meaning (Some asked) (inr other) =
     All-cons (IsAskedOfTrail trail) asked [] (subst (λ a. IsAskedOfTrail trail a) (sym is) tt)
     (All-nil (IsAskedOfTrail trail))
 
--- what is left where the input ends
+-- what is left at the end of the input
 end_of_trail : (trail : Trail) (rest : List ℕ) (frame : Frame) → EndsInput mirror_says rest frame
     → All (IsAskedOfTrail trail) (asks_of (frame ∷ []))
 end_of_trail trail rest frame (read, (line, is_first, reads), is) =
     let A : Frame → Type 0 = λ f. All (IsAskedOfTrail trail) (asks_of (f ∷ [])) in
     subst A (sym is) (read_of_trail trail (said mirror_says line) read reads)
 
--- frames, and one more
+-- frames, followed by one more
 asks_more : (trail : Trail) (frames : List Frame) (frame : Frame) → All (IsAskedOfTrail trail) (asks_of frames)
     → All (IsAskedOfTrail trail) (asks_of (frame ∷ [])) → All (IsAskedOfTrail trail) (asks_of (frames ++ frame ∷ []))
 asks_more trail frames frame first last =
@@ -86,7 +86,7 @@ asks_more trail frames frame first last =
     subst A (sym (asks_join frames (frame ∷ [])))
     (All-append (IsAskedOfTrail trail) (asks_of frames) (asks_of (frame ∷ [])) first last)
 
--- a front of the bytes
+-- a prefix of the bytes
 front_of_trail : (trail : Trail) (bytes earlier last : List ℕ) → bytes ≡ earlier ++ last → ArePacketsOfTrail trail bytes
     → ArePacketsOfTrail trail earlier
 front_of_trail trail bytes earlier last parts of frames rest are =
@@ -94,7 +94,7 @@ front_of_trail trail bytes earlier last parts of frames rest are =
     of frames (rest ++ last)
     (subst F (sym parts) (frames_more mirror_rules (query_whole_on mirror_says) earlier last frames rest are))
 
--- frames in front of the bytes, and one more that is wanted
+-- frames at the front of the bytes, followed by one more that is wanted
 wanted_of_trail : (trail : Trail) (bytes : List ℕ) (left : Option (List ℕ)) (frames : List Frame) (rest : List ℕ)
     (want : Want MirrorAsked NoEnd) → ArePacketsOfTrail trail bytes → Frames mirror_rules bytes frames rest
     → Wants mirror_rules left rest want → All (IsAskedOfTrail trail) (asks_of (frames ++ Some want ∷ []))

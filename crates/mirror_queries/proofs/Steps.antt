@@ -1,4 +1,4 @@
--- What a session of a mirror keeps.
+-- What stays true during a session of a mirror.
 use Rattle.std.proofs.Common.{◌≡◌, ◌<◌, ◌≤◌, ℕ, zero, suc, ℤ, List, [], ◌∷◌, length, Bool, true, false, Some, inl, inr, refl, sym, ap, subst, ◌∙◌, arith}
 use Rattle.std.specs.List.{All}
 use Rattle.std.proofs.lemmas.List.Elements.{All-head, All-nil, All-tail}
@@ -72,14 +72,14 @@ session_rises old (ask ∷ asks) moments (reply ∷ replies) new (given, rest, b
 
 -- ---- a trail
 
--- a mirror that has taken nothing
+-- a mirror that has taken nothing follows each trail
 pub empty_follows : (trail : Trail) → FollowsTrail trail empty_mirror
 empty_follows trail = record {
   shows = λ some. absurd (omega (arith, some));
   keeps = All-nil (IsKeptOfTrail trail);
 }
 
--- what is shown
+-- the copy that is shown is the trail's
 copy_follows : (trail : Trail) (state : MirrorState) (sheet : Sheet) (bytes : Text) → FollowsTrail trail state
     → 1 ≤ state.tables.publication → IsSheetShown state sheet bytes
     → IsCopyAt trail state.tables.publication sheet bytes

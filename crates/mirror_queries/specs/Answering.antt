@@ -1,4 +1,4 @@
--- What a mirror answers to a query, and what a packet makes of it. This project's profile.
+-- What a mirror answers to a query, and how a packet changes it. This project's profile.
 use Rattle.std.specs.Prelude.{◌≡◌, ◌⊎◌, ◌<◌, ◌≤◌, ◌^◌, ℕ, ℤ, List, [], ◌∷◌, ◌++◌, length, decimal}
 use Rattle.lei_code.specs.Texts.{Text}
 use Rattle.register_words.specs.declared.sheets.Sheet.{Sheet}
@@ -22,14 +22,14 @@ pub record ShowsNothing (state : MirrorState) (reply : QueryReply) : Type 0 wher
   pub none : state.tables.publication ≡ 0
   pub reply_is : reply ≡ QueryReply.Refused QueryRefusal.NothingHeld
 
--- One is, and the reply is the copy of this table that is shown.
+-- A publication is shown, and the reply is the copy of this table that is shown.
 pub record ShowsCopy (state : MirrorState) (sheet : Sheet) (reply : QueryReply) : Type 0 where
   pub some : 1 ≤ state.tables.publication
   pub bytes : Text
   pub is : IsSheetShown state sheet bytes
   pub reply_is : reply ≡ QueryReply.File bytes
 
--- The reply to SHOW: nothing is shown; or the copy is; or memory ran out.
+-- The reply to SHOW: no publication is shown, the copy is shown, or memory ran out.
 abbrev pub ShowStep : MirrorState → Sheet → QueryReply → Type 0
 ShowStep state sheet reply =
     ShowsNothing state reply ⊎ ShowsCopy state sheet reply
@@ -37,7 +37,8 @@ ShowStep state sheet reply =
 
 -- ---- COPY and DELTA
 
--- What is answered if a packet was taken: the number of the publication that is shown, and how many packets are kept.
+-- The answer if a packet was taken: the number of the publication that is shown, and the number of packets that are
+-- kept.
 abbrev pub standing_text : ℕ → ℕ → Text
 standing_text shown kept = decimal shown ++ 32 ∷ decimal kept
 
@@ -47,22 +48,22 @@ take_refusal MirrorFault.NotRead = QueryRefusal.NotRead
 take_refusal MirrorFault.Full = QueryRefusal.MirrorFull
 take_refusal MirrorFault.NoMemory = QueryRefusal.NoMemory
 
--- The bytes are a packet, which is taken, and the reply is what the mirror shows and keeps after it. The bytes are
--- fewer than 2^64, as all in memory are.
+-- The bytes are a packet, and it is taken. The reply says what the mirror shows and keeps afterwards. There are fewer
+-- than 2^64 bytes, as is true of all bytes in memory.
 pub record TakesQuery (state : MirrorState) (head : PacketHead) (packet : Text) (reply : QueryReply)
     (new : MirrorState) : Type 0 where
   pub short : length packet < 2 ^ 64
   pub takes : TakesBytes state head.kind head.sheet packet new
   pub reply_is : reply ≡ QueryReply.Text (standing_text new.tables.publication (length new.kept))
 
--- They are none, and nothing changes.
+-- The bytes aren't a packet, and nothing changes.
 pub record RefusesPacket (state : MirrorState) (head : PacketHead) (packet : Text) (reply : QueryReply)
     (new : MirrorState) : Type 0 where
   pub none : IsNoPacket head.kind head.sheet packet
   pub reply_is : reply ≡ QueryReply.Refused QueryRefusal.NotRead
   pub stays : new ≡ state
 
--- They are a packet that would be kept, there is no room for it, and nothing changes.
+-- The bytes are a packet that would be kept, but there is no room for it, and nothing changes.
 pub record LacksRoom (state : MirrorState) (head : PacketHead) (packet : Text) (reply : QueryReply)
     (new : MirrorState) : Type 0 where
   pub full : HasNoRoom state head.kind head.sheet packet
@@ -74,7 +75,7 @@ pub record LacksMemory (state : MirrorState) (reply : QueryReply) (new : MirrorS
   pub reply_is : reply ≡ QueryReply.Refused QueryRefusal.NoMemory
   pub stays : new ≡ state
 
--- The reply to COPY or DELTA, and the mirror after it.
+-- The reply to COPY or DELTA, and the mirror afterwards.
 abbrev pub TakeStep : MirrorState → PacketHead → Text → QueryReply → MirrorState → Type 0
 TakeStep state head packet reply new =
     TakesQuery state head packet reply new ⊎ RefusesPacket state head packet reply new
@@ -82,7 +83,7 @@ TakeStep state head packet reply new =
 
 -- ---- queries
 
--- The reply to what is asked, and the mirror after it. The clock is not asked. SHOW and every refusal leave the mirror
+-- The reply to what is asked, and the mirror afterwards. The clock isn't read. SHOW and every refusal leave the mirror
 -- as it is.
 abbrev pub MirrorStep : MirrorState → MirrorAsked → List ℤ → QueryReply → MirrorState → Type 0
 MirrorStep state (QueryAsked.Refuse refusal) moments reply new =

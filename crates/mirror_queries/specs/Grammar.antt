@@ -1,4 +1,4 @@
--- What a line of a mirror says. This project's profile.
+-- What a line to a mirror says. This project's profile.
 use Rattle.std.specs.Prelude.{ℕ, List, codes, if◌then◌else◌, Option, None, Some, ◌||◌}
 use Rattle.std.specs.Str.{bytes_eq}
 use Rattle.register_words.specs.Words.{number_within, sheet_of}
@@ -11,34 +11,34 @@ use Rattle.lei_mirror.specs.declared.packet.PacketKind.{PacketKind}
 use Rattle.mirror_queries.specs.declared.grammar.PacketHead.{PacketHead}
 use Rattle.mirror_queries.specs.declared.grammar.ShowQuery.{ShowQuery}
 
--- What lines of a mirror say: which table is asked for, and of which kind and table a packet is.
+-- What lines to a mirror say: which table is asked for, or the kind and the table of a packet.
 abbrev pub MirrorMeaning : Type 0
 MirrorMeaning = LineMeaning ShowQuery PacketHead
 
--- A packet has from 1 to 536,870,912 bytes.
+-- The size of a packet: from 1 to 536,870,912 bytes.
 abbrev pub size_of : List ℕ → Option ℕ
 size_of word = number_within 1 536_870_912 word
 
--- A larger number of up to 10 digits.
+-- A size that is too large for a packet, of up to 10 digits.
 abbrev pub large_of : List ℕ → Option ℕ
 large_of word = number_within 536_870_913 9_999_999_999 word
 
--- A packet of a size; or one that is too large, which is skipped.
+-- A packet of a size, or one that is too large and skipped.
 abbrev pub packet_by_size : PacketHead → Option ℕ → Option ℕ → MirrorMeaning
 packet_by_size head (Some size) large = LineMeaning.Packet head size
 packet_by_size head None (Some size) = LineMeaning.Skipped TooLong size
 packet_by_size head None None = LineMeaning.Refused Path
 
--- The same, of the word that is the number of bytes.
+-- The same for the word that has the number of bytes.
 unfoldable pub packet_of_size : PacketHead → List ℕ → MirrorMeaning
 packet_of_size head word = packet_by_size head (size_of word) (large_of word)
 
--- A packet of a table, if it is one.
+-- A packet of a table, if the word names one.
 abbrev pub packet_by : PacketKind → Option Sheet → List ℕ → MirrorMeaning
 packet_by kind None size = LineMeaning.Refused Path
 packet_by kind (Some sheet) size = packet_of_size (record { kind = kind; sheet = sheet }) size
 
--- The same, of words that were cut at their first space if they have one.
+-- The same for words that were cut at their first space, if they have one.
 abbrev pub packet_in : PacketKind → Option (List ℕ × List ℕ) → MirrorMeaning
 packet_in kind None = LineMeaning.Refused Path
 packet_in kind (Some parts) = packet_by kind (sheet_of parts.0) parts.1
@@ -47,7 +47,7 @@ packet_in kind (Some parts) = packet_by kind (sheet_of parts.0) parts.1
 unfoldable pub packet_of : PacketKind → List ℕ → MirrorMeaning
 packet_of kind rest = packet_in kind (cut rest)
 
--- A table whose copy is asked for, if it is one.
+-- The query for the copy of a table, if the word names one.
 abbrev pub show_by : Option Sheet → MirrorMeaning
 show_by None = LineMeaning.Refused Path
 show_by (Some sheet) = LineMeaning.Query (record { sheet = sheet })
@@ -56,26 +56,26 @@ show_by (Some sheet) = LineMeaning.Query (record { sheet = sheet })
 unfoldable pub show_of : List ℕ → MirrorMeaning
 show_of rest = show_by (sheet_of rest)
 
--- A first word alone lacks the words that belong to it.
+-- A first word alone lacks the words that belong to it, or is unknown.
 abbrev pub says_alone : List ℕ → MirrorMeaning
 says_alone word =
     if bytes_eq word (codes "COPY") || bytes_eq word (codes "DELTA") || bytes_eq word (codes "SHOW")
     then LineMeaning.Refused Path
     else LineMeaning.Refused NoRoute
 
--- What a first word says with what stands after its space.
+-- What a first word says with what follows its space.
 abbrev pub says_with : List ℕ → List ℕ → MirrorMeaning
 says_with word rest =
     if bytes_eq word (codes "COPY") then packet_of PacketKind.Copy rest
     else (if bytes_eq word (codes "DELTA") then packet_of PacketKind.Delta rest
     else (if bytes_eq word (codes "SHOW") then show_of rest else LineMeaning.Refused NoRoute))
 
--- What a line says that was cut at its first space if it has one.
+-- What a line says after it was cut at its first space, if it has one.
 abbrev pub says_in : Line → Option (List ℕ × List ℕ) → MirrorMeaning
 says_in line None = says_alone line
 says_in line (Some parts) = says_with parts.0 parts.1
 
--- What a line of a mirror says: the first of these that applies. Its first word is unknown; its other words are not
+-- What a line to a mirror says: the first of these that applies. Its first word is unknown; its other words aren't
 -- those that belong to the first; its packet is too large; or what it asks.
 abbrev pub mirror_says : Line → MirrorMeaning
 mirror_says line = says_in line (cut line)

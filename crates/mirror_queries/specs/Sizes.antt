@@ -3,7 +3,7 @@ use Rattle.std.specs.Prelude.{◌<◌, ◌^◌, length}
 use Rattle.query_reading.specs.declared.asked.QueryAsked.{QueryAsked}
 use Rattle.mirror_queries.specs.Answering.{MirrorAsked}
 
--- A packet has fewer than 2^64 bytes, as all in memory have.
+-- A packet has fewer than 2^64 bytes, as is true of all bytes in memory.
 abbrev pub IsShort : MirrorAsked → Type 0
 IsShort (QueryAsked.Refuse refusal) = Unit {0}
 IsShort (QueryAsked.Query query) = Unit {0}

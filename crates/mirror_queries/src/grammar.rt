@@ -1,4 +1,4 @@
-//! What lines of a mirror say.
+//! What lines to a mirror say.
 ghost use Rattle.std.specs.Prelude.{◌≡◌};
 ghost use Rattle.mirror_queries.specs.Grammar.{packet_of, packet_of_size, says_alone, says_with, show_of};
 
@@ -11,24 +11,24 @@ use query_reading::{Grammar, LineMeaning, QueryRefusal};
 use register_words::sheet_of;
 use std::alloc::Global;
 
-/// A table of which the copy is asked for.
+/// The table whose copy is asked for.
 #[derive(Drop)]
 pub struct ShowQuery {
     pub sheet: Sheet,
 }
 
-/// What a line says of its packet, but for its size.
+/// What a line says about its packet, except the size.
 #[derive(Clone, Copy)]
 pub struct PacketHead {
     pub kind: PacketKind,
     pub sheet: Sheet,
 }
 
-/// The grammar of a mirror: `COPY table n` and `DELTA table n`, each with a packet, and `SHOW table`.
+/// The grammar of a mirror: `COPY table n` and `DELTA table n`, each followed by a packet, and `SHOW table`.
 #[derive(Drop)]
 pub struct MirrorGrammar {}
 
-// What a line of a mirror says.
+// What a line to a mirror says.
 type MirrorMeaning = LineMeaning<ShowQuery, PacketHead>;
 
 impl Grammar for MirrorGrammar {
@@ -48,7 +48,7 @@ impl Grammar for MirrorGrammar {
     }
 }
 
-// What a first word says alone.
+// What a first word says if nothing follows it.
 fn read_alone(word: &[u8]) -> MirrorMeaning
     ensures { result ≡ says_alone word.now }
 {
@@ -58,7 +58,7 @@ fn read_alone(word: &[u8]) -> MirrorMeaning
     LineMeaning::Refused(QueryRefusal::NoRoute)
 }
 
-// What a first word says with what stands after its space.
+// What a first word says with what follows its space.
 fn read_words(word: &[u8], rest: &[u8]) -> MirrorMeaning
     ensures { result ≡ says_with word.now rest.now }
 {
@@ -99,7 +99,7 @@ fn read_packet(kind: PacketKind, rest: &[u8]) -> MirrorMeaning
     }
 }
 
-// A packet of the size that is written so. One that is too large is skipped.
+// A packet of the size that the word has in decimal. One that is too large is skipped.
 #[tactic(auto, unfolding(crate::specs::Grammar::packet_of_size))]
 fn read_packet_of_size(head: PacketHead, size: &[u8]) -> MirrorMeaning
     ensures { result ≡ packet_of_size head size.now }

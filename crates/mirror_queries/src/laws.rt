@@ -14,24 +14,24 @@ ghost use Rattle.mirror_queries.specs.Following.{ArePacketsOfTrail, IsAskedOfTra
 ghost use Rattle.mirror_queries.specs.Serving.{mirror_rules};
 ghost use Rattle.mirror_queries.specs.Sizes.{IsShort};
 
-/// At a mirror a query has one reply, and one mirror comes after it, unless memory runs out. Of packets of 2^64 bytes
-/// or more nothing is said.
+/// For a mirror and a query there is one reply and one next mirror, unless memory runs out. Nothing is said about
+/// packets of 2^64 bytes or more.
 pub fn queries_have_one_reply()
     ensures { (state new next : MirrorState) (asked : MirrorAsked) (moments later : List ℤ) (reply other : QueryReply)
         → IsShort asked → MirrorStep state asked moments reply new → MirrorStep state asked later other next
         → LacksMemory state reply new ⊎ LacksMemory state other next ⊎ ((reply ≡ other) × (new ≡ next)) }
 {}
 
-/// Over a session the number of the publication that is shown never falls.
+/// During a session the number of the publication that is shown never falls.
 pub fn publications_never_fall()
     ensures { (old : MirrorState) (asks : List MirrorAsked) (moments : List ℤ) (replies : List QueryReply)
         (new : MirrorState) → Session MirrorStep old asks moments replies new
         → old.tables.publication ≤ new.tables.publication }
 {}
 
-/// Over a session that begins with a mirror which follows a sound trail of at most 1,000,000 publications, and whose
-/// packets are all of that trail, the mirror follows it after each query, and each file that is shown is the copy of
-/// the publication that is shown then.
+/// Suppose a session starts with a mirror that follows a sound trail of at most 1,000,000 publications, and its packets
+/// are all of that trail. Then the mirror follows the trail after each query. Each file that is shown is the copy of
+/// the publication that is shown at that time.
 pub fn sessions_follow_trails()
     ensures { (trail : Trail) → IsSound trail → length trail ≤ 1_000_000
         → (old : MirrorState) (asks : List MirrorAsked) (moments : List ℤ) (replies : List QueryReply)
@@ -40,7 +40,7 @@ pub fn sessions_follow_trails()
         → FollowsTrail trail new × Session (TrailStep trail) old asks moments replies new }
 {}
 
-/// The same of a mirror that is served, if the packets of the bytes that were taken are all of the trail.
+/// The same for a mirror that is served, if the packets in the bytes that it took from the wire are all of the trail.
 pub fn served_mirrors_follow_trails()
     ensures { (trail : Trail) → IsSound trail → length trail ≤ 1_000_000
         → (most : ℕ) (start now : Progress MirrorState) (left left_now : Option (List ℕ)) (ended : Ended NoEnd)

@@ -1,4 +1,4 @@
-//! The queries of a mirror of the three tables, and who answers them.
+//! The queries of a mirror of the three tables, and the server that answers them.
 #![tactic(auto)]
 
 mod grammar;

@@ -1,4 +1,4 @@
-//! Who answers the queries of a mirror.
+//! The server that answers the queries of a mirror.
 ghost use Rattle.std.specs.Prelude.{◌≡◌, IfOk};
 ghost use Rattle.lei_mirror.specs.Mirrors.{empty_mirror};
 ghost use Rattle.mirror_queries.specs.Answering.{ShowStep, TakeStep, take_refusal};
@@ -13,7 +13,7 @@ use request_loop::Answers;
 use std::alloc::Global;
 use std::marker::Model;
 
-/// Who answers the queries of a mirror. Contracts see the mirror.
+/// Answers the queries of a mirror. Contracts see the mirror.
 #[derive(Drop)]
 pub struct MirrorServer {
     alloc: Global,
@@ -29,7 +29,7 @@ impl Model for MirrorServer {
 }
 
 impl MirrorServer {
-    /// Who answers by a mirror that has taken nothing.
+    /// A server with a mirror that has taken nothing.
     pub fn new(alloc: Global) -> Result<Self, NoMemory>
         ensures { IfOk result (λ server. server ≡ empty_mirror) }
     {
@@ -50,7 +50,7 @@ impl MirrorServer {
         }
     }
 
-    // Answers COPY and DELTA. The memory for the reply is taken first, so that nothing changes if there is none.
+    // Answers COPY and DELTA. The memory for the reply is allocated first, so that nothing changes if there is none.
     fn take(&mut self, head: PacketHead, packet: &[u8]) -> QueryReply
         ensures { TakeStep self.old head packet.now result self.new }
     {

@@ -1,4 +1,4 @@
-//! A mirror that is served.
+//! Serves one session of a mirror.
 ghost use Rattle.std.specs.Prelude.{◌≡◌, ◌<◌, ℕ, List, [], Some};
 ghost use Rattle.lei_outside.specs.Count.{Rose};
 ghost use Rattle.lei_outside.specs.Faults.{FailsLast};
@@ -17,7 +17,7 @@ use line_reading::NoEnd;
 use query_reading::QueryFraming;
 use request_loop::{Ended, Intake, Wire, serve};
 
-// The clock of a mirror, which is never asked.
+// The clock of a mirror, which is never read.
 #[derive(Drop)]
 struct UnaskedClock {}
 
@@ -32,7 +32,7 @@ impl Clock for UnaskedClock {
 }
 
 /// Serves one session of a mirror: reads lines from the wire, with the packets that they announce, and writes the reply
-/// to each query before the next is asked.
+/// to each query before it answers the next one.
 pub fn serve_mirror<R, W: Wire>(
     rt: &R,
     intake: Intake,

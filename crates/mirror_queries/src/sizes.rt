@@ -4,13 +4,13 @@ ghost use Rattle.mirror_queries.specs.Grammar.{large_of, size_of};
 
 use register_words::number_within;
 
-/// The greatest number of bytes of a packet: 512 MiB. This project's profile.
+/// The most bytes that a packet may have: 512 MiB. This project's profile.
 pub const MAX_PACKET: u32 = 536_870_912;
 
-/// The greatest number of bytes that are skipped: the greatest number of 10 digits. This project's profile.
+/// The most bytes that can be skipped: the greatest number of 10 digits. This project's profile.
 pub const MAX_SKIPPED: usize = 9_999_999_999;
 
-/// The number of a packet's bytes that is written so, from 1 to [`MAX_PACKET`].
+/// The number of a packet's bytes that a word has in decimal, if it is from 1 to [`MAX_PACKET`].
 pub fn read_size(word: &[u8]) -> Option<usize>
     ensures { result ≡ size_of word.now }
 {
@@ -20,7 +20,7 @@ pub fn read_size(word: &[u8]) -> Option<usize>
     }
 }
 
-/// The number that is written so and too large for a packet, up to [`MAX_SKIPPED`].
+/// The number that a word has in decimal, if it is too large for a packet and at most [`MAX_SKIPPED`].
 pub fn read_large(word: &[u8]) -> Option<usize>
     ensures { result ≡ large_of word.now }
 {

@@ -5,11 +5,11 @@ ghost use Rattle.mirror_queries.specs.Answering.{standing_text};
 use lei_mirror::Standing;
 use lei_outside::Bytes;
 
-/// So many bytes have room for the text of any standing.
+/// A number of bytes that is enough for the text of any standing.
 pub const STANDING_ROOM: usize = 128;
 
-/// What is answered if a packet was taken, and the mirror shows and keeps so much after it. It is put into memory that
-/// was taken before.
+/// The answer to a packet that was taken: the number of the publication that is shown afterwards, and the number of
+/// packets that are kept. It is written into memory that was allocated before.
 pub fn standing_text(mut text: Vec<u8>, standing: Standing) -> Bytes
     requires none { text.items ≡ [] }
     requires room { STANDING_ROOM ≤ vec_capacity text }
@@ -25,7 +25,7 @@ pub fn standing_text(mut text: Vec<u8>, standing: Standing) -> Bytes
     Bytes::from(text)
 }
 
-// Puts a piece after the others, which has room there.
+// Appends a piece. There must be room for it.
 fn append(held: &mut Vec<u8>, piece: &[u8])
     requires { vec_len held.old + length piece.now ≤ vec_capacity held.old }
     ensures items { held.new.items ≡ held.old.items ++ piece.now }

@@ -14,7 +14,7 @@ front_then : (e : Text) (texts : List Text) → with_front [] (with_front e text
 front_then e [] = refl
 front_then e (first ∷ others) = refl
 
--- there is a first piece, so nothing before it changes nothing
+-- there is a first piece, so an empty front changes nothing
 pub nothing_before : (cs : List ℕ) → with_front [] (pieces cs) ≡ pieces cs
 nothing_before [] = refl
 nothing_before (c ∷ cs) = by (is_separator c)
@@ -33,11 +33,11 @@ first_word word texts = by (is_word word)
     by true = refl
     by false = refl
 
--- the characters from a place on
+-- the characters from an index on
 rest_at : (cs : List ℕ) (n c : ℕ) → n < length cs → c ≡ get_or cs n c → drop n cs ≡ c ∷ drop (n + 1) cs
 rest_at cs n c within here = drop_more cs n c within ∙ ap (λ d. d ∷ drop (n + 1) cs) (sym here)
 
--- what was put, with what is being read and with the rest, is all
+-- the words so far, with those of the current word and of the rest, are all words
 abbrev pub IsCutSo : List Text → Text → List ℕ → List Text → Type 0
 IsCutSo made word rest all = made ++ filter is_word (with_front word (pieces rest)) ≡ all
 
@@ -57,7 +57,7 @@ cut_at made made' word word' cs n m c all so within here next cuts puts empties 
     ∙ ap (λ l. made ++ filter is_word (with_front word (pieces l))) (sym (rest_at cs n c within here))
     ∙ so
 
--- any other character goes on with it
+-- any other character continues the word
 pub read_on : (made : List Text) (word word' : Text) (cs : List ℕ) (n m c : ℕ) (all : List Text)
     → IsCutSo made word (drop n cs) all → n < length cs → c ≡ get_or cs n c → m ≡ n + 1 → is_separator c ≡ false
     → word' ≡ word ++ encode_utf8 c → IsCutSo made word' (drop m cs) all

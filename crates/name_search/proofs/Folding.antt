@@ -5,7 +5,7 @@ use Rattle.std.specs.Str.{IsUtf8, chars}
 use Rattle.std.proofs.lemmas.Str.{encodes-chars, encodes_same}
 use Rattle.caseless.specs.Caseless.{default_case_fold}
 
--- what a text spells are its characters
+-- the characters of a text are those that it encodes
 chars-is : (bs cs : List ℕ) → IsUtf8 bs → bs ≡ encode_utf8_all cs → chars bs ≡ cs
 chars-is bs cs utf8 spells = encodes_same (chars bs) cs (encodes-chars bs utf8 ∙ spells)
 

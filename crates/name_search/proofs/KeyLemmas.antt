@@ -19,7 +19,7 @@ key_by : (sheet : Sheet) (texts : List Text) → length texts ≡ 32 → sheet �
 key_by sheet [] full lei = absurd (omega arith)
 key_by sheet (text ∷ texts) full lei = ap (λ s. take (key_len s) (text ∷ texts)) lei
 
--- its key is its first text
+-- the key of a row of `lei` is its first text
 pub key_is : (row : SheetRow) → IsRow row → row.sheet ≡ Sheet.Lei → key row ≡ text_at row.texts 1 ∷ []
 key_is row is lei = key_by row.sheet row.texts (texts_of_row row is lei) lei
 

@@ -1,4 +1,4 @@
--- What is noted of the words of names.
+-- What is noted under the words of names.
 use Rattle.std.proofs.Common.{◌≡◌, ℕ, ◌+◌, ◌<◌, T, Bool, true, false, ◌&&◌, ◌||◌, cond, Option, Some, List, [], ◌∷◌, ◌++◌, zero, suc, get_or, take, map, length, refl, sym, ap, subst, ◌∙◌, arith}
 use Rattle.std.specs.Prelude.{flat_map}
 use Rattle.std.specs.BTreeMap.{BTreeMap, UpdatesBy, get_by_text}
@@ -49,7 +49,7 @@ joined : (a b : Bool) → a ≡ true → b ≡ true → (a && b) ≡ true
 joined true b p q = q
 joined false b p q = absurd (cc)
 
--- ---- a test that holds of all
+-- ---- a test that all pass
 
 all_weaker : {X : Type 0} (p q : X → Bool) → ((x : X) → p x ≡ true → q x ≡ true) → (xs : List X) → list_all p xs ≡ true → list_all q xs ≡ true
 all_weaker p q weaker [] all = refl
@@ -76,7 +76,7 @@ key_stays old new stays key these =
 pub noted_stays : (old new : Postings) → Stays old new → (names : List Name) → list_all (is_noted old) names ≡ true → list_all (is_noted new) names ≡ true
 noted_stays old new stays = all_weaker (is_noted old) (is_noted new) (λ (name : Name). key_stays old new stays name.0 (words name.1))
 
--- one more row was named after the others
+-- the names of the rows so far and of one more row
 pub named_more : (rows : List SheetRow) (i : ℕ) (row : SheetRow) (made : List Name) (name : Name) → i < length rows → row ≡ get_or rows i row
     → made ≡ map named (take i rows) → name ≡ named row → made ++ name ∷ [] ≡ map named (take (i + 1) rows)
 named_more rows i row made name within here before value =
@@ -165,7 +165,7 @@ pub indexed-sorted : (names : List Name) (postings : Postings) → IsIndexed nam
 indexed-sorted names postings is =
     ap (is_sorted text_cmp) is.names_are ∙ sorted_names is.copy is.copy_is.each is.copy_is.rising
 
--- ---- what holds of the names of a copy and of those that changes put holds of all after the changes
+-- ---- a test that the names of a copy and those that changes put pass is passed by all names after the changes
 
 put_first : (test : Name → Bool) (change : Change) (rows : List SheetRow) → list_all test (put_name change) ≡ true → list_all test (map named rows) ≡ true
     → list_all test (map named (put_by change ++ rows)) ≡ true
@@ -245,7 +245,7 @@ module _ {Y V : Type 0} (read : Option V → List Text) (old new : BTreeMap (Str
       by true same = stay key (ap (λ w. is_key key (read (get_by_text old w))) ((bytes_decides word other).0 same) ∙ had)
       by false differs = had
 
--- no key stands under a word that has none
+-- there is no key under a word that has none
 pub no_key : {P : Type 0} (key : Text) (keys : List Text) → keys ≡ [] → is_key key keys ≡ true → P
 no_key key keys none had = absurd (false≢true (sym (ap (is_key key) none) ∙ had))
 
@@ -274,7 +274,7 @@ note_more old new key key' these i word word' stays within here before same is n
     all_more (λ w. is_key key (keys_under new w)) these i word within here (key_stays old new stays key (take i these) before)
     (sym (ap (λ k. is_key k (keys_under new word')) same ∙ ap (λ w. is_key key (keys_under new w)) is) ∙ noted)
 
--- ---- a key that is taken from under a word
+-- ---- a key that is removed from under a word
 
 among_itself : (word : Text) (these : List Text) → is_among (word ∷ these) word ≡ true
 among_itself word these = ap (λ b. b || is_among these word) ((bytes_decides word word).1 refl)
@@ -294,7 +294,7 @@ each_of p q (word ∷ these) weaker all =
     joined (q word) (list_all q these) (weaker word (among_itself word these) parts.0)
     (each_of p q these (λ other among. weaker other (among_more word other these among)) parts.1)
 
--- each name is the one under its key
+-- what is found under the key of each name is this name
 later_found : (e : Name) (all names : List Name) → T (below_all text_cmp e.0 names)
     → AllByRecursion (λ (n : Name). find text_cmp n.0 all ≡ Some n.1) names → AllByRecursion (λ (n : Name). find text_cmp n.0 (e ∷ all) ≡ Some n.1) names
 later_found e all [] below found = tt
@@ -311,13 +311,13 @@ each_found (e ∷ es) sorted = (
   later_found e es es (first_true (below_all text_cmp e.0 es) (is_sorted text_cmp es) sorted) (each_found es (second_true (below_all text_cmp e.0 es) (is_sorted text_cmp es) sorted)),
 )
 
--- a key was taken from under a word, and no other key from under any
+-- no key was removed from under any word, except possibly this key from under this word
 abbrev TakesOne : Text → Text → Postings → Postings → Type 0
 TakesOne word key old new =
     (other k : Text) → (bytes_eq word other && bytes_eq key k) ≡ false → is_key k (keys_under old other) ≡ true
     → is_key k (keys_under new other) ≡ true
 
--- a name keeps its key under a word that it has
+-- a name keeps its key under each of its words
 keeps_word : (old new : Postings) (rows : List Name) (word key : Text) (n : Name) → TakesOne word key old new
     → has_word (option_map (λ name. (key, name)) (find text_cmp key rows)) word ≡ false → find text_cmp n.0 rows ≡ Some n.1
     → (other : Text) → is_among (words n.1) other ≡ true → is_key n.0 (keys_under old other) ≡ true → is_key n.0 (keys_under new other) ≡ true
@@ -342,7 +342,7 @@ keeps_each old new rows word key takes lacks (n ∷ names) found all =
     (each_of (λ w. is_key n.0 (keys_under old w)) (λ w. is_key n.0 (keys_under new w)) (words n.1) (keeps_word old new rows word key n takes lacks found.0) parts.0)
     (keeps_each old new rows word key takes lacks names found.1 parts.1)
 
--- so nothing that the rows need is taken
+-- so no key that the rows need is removed
 pub forgets_one : (first old new : Postings) (rows : List Name) (word key : Text) (row : Option Name) → is_sorted text_cmp rows ≡ true
     → row ≡ option_map (λ name. (key, name)) (find text_cmp key rows) → has_word row word ≡ false → TakesFrom word key old.later new.later
     → new.first ≡ old.first → StaysFor rows first old → StaysFor rows first new
@@ -363,7 +363,7 @@ indexed-forgot names old new is stays = record {
   noted = stays is.noted;
 }
 
--- a key is taken from under a word of a map
+-- a key is removed from under a word of a map
 module _ {Y : Type 0} (old new : BTreeMap (String Y) (BTreeSet Text)) (word key : Text) (keys before : BTreeSet Text) where
   pub takes_updated : UpdatesBy string_cmp (λ k. slice_cmp nat_cmp word (string_bytes k)) old new (Some keys)
       → get_by_text old word ≡ Some before

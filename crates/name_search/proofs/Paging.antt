@@ -1,4 +1,4 @@
--- What is gathered of one more match.
+-- What is gathered with one more match.
 use Rattle.std.proofs.Common.{◌≡◌, ℕ, ◌+◌, ◌<◌, ◌≤◌, Bool, true, false, cond, List, [], ◌∷◌, ◌++◌, length, drop, take, get_or, filter, refl, sym, ap, subst, ◌∙◌, arith}
 use Rattle.std.proofs.lemmas.List.{append-nil, drop-append-le, drop_all, length-take, length_push, take-append-le, take_all}
 use Rattle.std.proofs.lemmas.List.Elements.{filter_more}
@@ -41,7 +41,7 @@ on_page start before row count names names' gathers late room put =
           ∙ sym (take_all 50 (drop start before ++ row ∷ []) more) ∙ ap (take 50) (sym (drop-append-le start before (row ∷ []) within));
     }
 
--- nothing is gathered of nothing
+-- nothing is gathered from no matches
 pub nothing_yet : (start : ℕ) → Gathers start [] 0 []
 nothing_yet start = record { count_is = refl; names_are = ap (take 50) (sym (drop_all start [] (omega arith))) }
 
@@ -59,7 +59,7 @@ module _ (start : ℕ) (p : Name → Bool) (rows : List Name) (i : ℕ) (row : N
       subst (λ l. Gathers start l count names)
       (sym (next_is ∙ ap (λ b. filter p (take i rows) ++ cond b (row ∷ []) []) is)) gathers
 
-  -- another row isn't
+  -- a row that doesn't match isn't
   pub gathers_none : (count : ℕ) (names : List Name) → p row ≡ false → Gathers start (filter p (take i rows)) count names
       → Gathers start (filter p (take (i + 1) rows)) count names
   gathers_none count names isnt gathers =

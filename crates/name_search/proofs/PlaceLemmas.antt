@@ -41,7 +41,7 @@ turned j k lt = nat_list_cmp_total.antisymm k j ∙ ap ordering_reverse lt
 back : (j k : Text) → text_cmp j k ≡ Ordering.Greater → text_cmp k j ≡ Ordering.Less
 back j k gt = nat_list_cmp_total.antisymm k j ∙ ap ordering_reverse gt
 
--- a key before that of one place is before all from there on
+-- a key before the one at a place is before all from there on
 pub above_from : (names : List Name) (key : Text) (i : ℕ) (name : Name) → is_sorted text_cmp names ≡ true → i < length names
     → name ≡ get_or names i name → text_cmp key name.0 ≡ Ordering.Less → IsAbove names key i
 above_from names key i name sorted within here lt k d from inside = by (ltb i k) refl
@@ -57,7 +57,7 @@ above_from names key i name sorted within here lt k d from inside = by (ltb i k)
         let is : i ≡ k = omega (arith, ltb-false i k same) in
         subst (λ n. text_cmp key (get_or names n d).0 ≡ Ordering.Less) is at
 
--- a key after that of one place is after all up to it
+-- a key after the one at a place is after all up to it
 pub below_to : (names : List Name) (key : Text) (i : ℕ) (name : Name) → is_sorted text_cmp names ≡ true → i < length names
     → name ≡ get_or names i name → text_cmp key name.0 ≡ Ordering.Greater → IsBelow names key (i + 1)
 below_to names key i name sorted within here gt k d before = by (ltb k i) refl
@@ -144,7 +144,7 @@ found_at (e ∷ es) key (suc i) d name sorted within here tie =
     ap (λ o. option_map (λ n. (key, n)) (cond (is_eq o) (Some e.1) (find text_cmp key es))) gt
     ∙ found_at es key i d name (second_true (below_all text_cmp e.0 es) (is_sorted text_cmp es) sorted) (omega arith) here tie
 
--- the name that has the key is found
+-- the name at a place whose key is the same is what is found
 pub found_is : (names : List Name) (key : Text) (i : ℕ) (name : Name) → is_sorted text_cmp names ≡ true → i < length names
     → name ≡ get_or names i name → text_cmp key name.0 ≡ Ordering.Equal
     → Some name ≡ option_map (λ n. (key, n)) (find text_cmp key names)
@@ -159,7 +159,7 @@ nowhere (e ∷ es) key none =
 abbrev named_under : Text → Option Text → Option Name
 named_under key o = option_map (λ n. (key, n)) o
 
--- where the places meet there is none
+-- if the two places meet, no name has the key
 pub none_is : (names : List Name) (key : Text) (low high : ℕ) → IsBelow names key low → IsAbove names key high → high ≤ low
     → ◌≡◌ {A = Option Name} None (named_under key (find text_cmp key names))
 none_is names key low high below above meet =

@@ -1,4 +1,4 @@
--- Keys in rising order, and keys among others.
+-- Keys in rising order, and lists of keys within others.
 use Rattle.std.proofs.Common.{◌≡◌, ℕ, ◌+◌, ◌-◌, ◌<◌, None, get_or, subst, take, Bool, true, false, ◌||◌, Some, List, [], ◌∷◌, ◌++◌, zero, suc, length, refl, sym, ap, ◌∙◌, arith}
 use Rattle.std.specs.Cmp.{tied_itself}
 use Rattle.std.specs.List.{AllByRecursion, slice_get}
@@ -12,7 +12,7 @@ use Rattle.lei_code.specs.Texts.{Text}
 use Rattle.name_search.specs.Keys.{AreKeysOf, is_key, text_cmp}
 use Rattle.name_search.proofs.WalkLemmas.{tied}
 
--- ---- a key among two lists
+-- ---- a key in one of two lists
 
 pub in_first : (key : Text) (these those : List Text) → is_key key these ≡ true → is_key key (these ++ those) ≡ true
 in_first key these those is = list_any-append (λ k. is_eq (text_cmp key k)) these those ∙ ap (λ b. b || is_key key those) is
@@ -42,7 +42,7 @@ pub none_rise : IsStrictlySortedBy text_cmp []
 unfolding IsStrictlySortedBy
 none_rise = tt
 
--- each is below a key that comes after the last
+-- each key is below a key that comes after the last
 abbrev AreBelow : List Text → Text → Type 0
 AreBelow keys key = AllByRecursion (λ k. text_cmp k key ≡ Ordering.Less) keys
 
@@ -71,7 +71,7 @@ below_last (first ∷ second ∷ keys) (suc n) key last at rising is above =
     let others : AreBelow (second ∷ keys) key = below_last (second ∷ keys) n key last (omega arith) rising.1 is above in
     (nat_list_cmp_total.trans first second key rising.0.0 others.0, others)
 
--- so the keys rise with it
+-- so the keys with this one still rise
 pub rise_after : (keys : List Text) (n : ℕ) (key last : Text) → n + 1 ≡ length keys → IsStrictlySortedBy text_cmp keys → slice_get keys n ≡ Some last
     → text_cmp key last ≡ Ordering.Greater → IsStrictlySortedBy text_cmp (keys ++ key ∷ [])
 rise_after keys n key last at rising is above = rise_push keys key rising (below_last keys n key last at rising is above)
@@ -92,7 +92,7 @@ unfolding IsStrictlySortedBy
 rise_alone [] key none = (tt, tt)
 rise_alone (first ∷ keys) key none = no_last (first ∷ keys) (length (first ∷ keys) - 1) (omega arith) none
 
--- a key that was put at the end is there
+-- a key that was appended is there
 pub pushed_is_key : (keys keys' : List Text) (key key' : Text) → key' ≡ key → keys' ≡ keys ++ key' ∷ [] → is_key key keys' ≡ true
 pushed_is_key keys keys' key key' same push =
     ap (is_key key) push ∙ in_second key keys (key' ∷ []) (ap (λ k. is_key key (k ∷ [])) same ∙ key_alone key)
@@ -106,7 +106,7 @@ last_is_key (first ∷ keys) zero key last is same =
 last_is_key (first ∷ keys) (suc n) key last is same =
     either (is_eq (text_cmp key first)) (is_key key keys) (last_is_key keys n key last is same)
 
--- ---- keys that are put among others
+-- ---- keys that are added to others
 
 pub keys_push : (list : List Text) (key : Text) (old new : List Text) → AreKeysOf list old → AreKeysOf old new → is_key key new ≡ true
     → AreKeysOf (list ++ key ∷ []) new

@@ -40,7 +40,7 @@ equal Ordering.Greater e = absurd (cc)
 pub tied : (q k : Text) → eq_by_cmp text_cmp q k ≡ true → q ≡ k
 tied q k e = text_same q k (equal (text_cmp q k) e)
 
--- what a test keeps of the name that is found under a key
+-- the name that is found under a key, if it passes a test
 abbrev kept : (Name → Bool) → Text → Option Text → Option Text
 kept p q None = None
 kept p q (Some name) = cond (p (q, name)) (Some name) None
@@ -92,7 +92,7 @@ find_filter p q (e ∷ es) sorted =
     by others false true differs passes = ap (λ b. cond b (Some e.1) (find text_cmp q (filter p es))) differs ∙ others
     by others false false differs fails = others
 
--- ---- keys in their order
+-- ---- keys in rising order
 
 abbrev Rises : List Text → Type 0
 Rises keys = IsStrictlySortedBy text_cmp keys
@@ -133,7 +133,7 @@ module _ (p : Name → Bool) (names : List Name) where
   sorted_walk [] rises = tt
   sorted_walk (key ∷ keys) rises = sorted_hits key (find text_cmp key names) (walked keys) (below_walk key keys rises.0) (sorted_walk keys rises.1)
 
-  -- what is found under a key in a walk over it and others
+  -- what is found under a key in the result of a walk over it and others
   find_same : (q key : Text) (o : Option Text) (more : List Name) → eq_by_cmp text_cmp q key ≡ true → find text_cmp q more ≡ None
       → find text_cmp q (hits p key o ++ more) ≡ kept p q o
   find_same q key None more same none = none
@@ -183,7 +183,7 @@ module _ (p : Name → Bool) (names : List Name) where
       by q None found = nothing (is_key q keys)
       by q (Some name) found = passes q name (p (q, name)) refl found
 
--- where no key covers them, no name passes
+-- if there are no keys to cover them, no name passes
 pub nothing_is : (p : Name → Bool) (names : List Name) → is_sorted text_cmp names ≡ true → Covers p names [] → filter p names ≡ []
 unfolding IsStrictlySortedBy
 nothing_is p names sorted covers = sym (walk_is p names [] sorted tt covers)

@@ -1,4 +1,4 @@
--- A walk over the rows of a copy and the changes of a delta, of which only the names are put.
+-- A walk over the rows of a copy and the changes of a delta that puts only the names.
 use Rattle.std.proofs.Common.{◌≡◌, ℕ, zero, suc, ◌+◌, ◌<◌, ◌≤◌, List, [], ◌∷◌, ◌++◌, length, drop, take, get_or, map, refl, sym, ap, subst, ◌∙◌, append_assoc, arith}
 use Rattle.std.specs.FinMap.Entries.{by_order}
 use Rattle.std.specs.List.{All}
@@ -32,7 +32,7 @@ same_rest : (front left right : List Name) → front ++ left ≡ front ++ right 
 same_rest [] left right same = same
 same_rest (name ∷ front) left right same = same_rest front left right (cc)
 
--- what is left of the names after a change was put
+-- the names that are left after a change was put
 pub rest_put : (changes : List Change) (i : ℕ) (change : Change) (old new : List Name) → i < length changes → change ≡ get_or changes i change
     → old ≡ put_names (drop i changes) → old ≡ put_name change ++ new → new ≡ put_names (drop (i + 1) changes)
 rest_put changes i change old new within here before after =
@@ -94,14 +94,14 @@ module _ (change : Change) (cs : List Change) (q : Text)
   passes_same (row ∷ rest) each some here =
       ap (by_row row rest) (orders row (All-head (IsRowOf Sheet.Lei) row rest each) ∙ here (named row))
 
-  -- or it stands before those with greater keys
+  -- or it comes before those with greater keys
   passes_greater : (rest : List SheetRow) → All (IsRowOf Sheet.Lei) rest → IsAbove (map named rest) q 0
       → merged rest (change ∷ cs) ≡ put_by change ++ merged rest cs
   passes_greater [] each above = refl
   passes_greater (row ∷ rest) each above =
       ap (by_row row rest) (orders row (All-head (IsRowOf Sheet.Lei) row rest each) ∙ above 0 (named row) (omega arith) (omega arith))
 
--- how a change's key compares to those of rows
+-- how a change's key compares with those of rows
 orders_so : (change : Change) (q : Text) → IsChangeOf Sheet.Lei change → q ≡ text_at (changed_row change).texts 1 → (row : SheetRow) → IsRowOf Sheet.Lei row
     → key_cmp (changed_key change) (key row) ≡ text_cmp q (named row).0
 orders_so change q is q_is row row_is =
@@ -113,14 +113,14 @@ put_names_by (Change.Drop row) = refl
 
 -- ---- all changes
 
--- what was put, with what the rest of a copy and the changes that are left make, is what all make
+-- what was put, followed by what the remaining rows and changes result in, is what all result in
 pub record Walked (copy : List SheetRow) (changes : List Change) (left : List Name) (next : ℕ) (out : List Name) : Type 0 where
   pub rest : List SheetRow
   pub each : All (IsRowOf Sheet.Lei) rest
   pub left_is : left ≡ map named rest
   pub walk : out ++ map named (merged rest (drop next changes)) ≡ map named (merged copy changes)
 
--- the same of each copy that has these names
+-- the same for each copy that has these names
 abbrev pub WalkedSo : List Name → List Change → List Name → ℕ → List Name → Type 0
 WalkedSo names changes left next out =
     (copy : List SheetRow) → AreRows Sheet.Lei copy → names ≡ map named copy → Walked copy changes left next out

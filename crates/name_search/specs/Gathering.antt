@@ -1,8 +1,8 @@
--- What a search has gathered of the names that it has come to.
+-- What a search has gathered from the names that it has come to.
 use Rattle.std.specs.Prelude.{◌≡◌, ℕ, List, take, drop, length}
 use Rattle.name_search.specs.NameTables.{Name}
 
--- Of these matches their number was counted, and those on the page that begins after so many were put down.
+-- The count is that of these matches, and the names are those on the page that starts after the first `start` of them.
 pub record Gathers (start : ℕ) (matches : List Name) (count : ℕ) (names : List Name) : Type 0 where
   pub count_is : count ≡ length matches
   pub names_are : names ≡ take 50 (drop start matches)

@@ -1,4 +1,4 @@
--- What an index has of a golden copy of `lei`, and what a delta makes of it: this project's profile.
+-- What an index has of a golden copy of `lei`, and how a delta changes it: this project's profile.
 use Rattle.std.specs.Prelude.{◌≡◌, ◌≢◌, ℕ, Bool, List, Option, Some, map, true, false, option_map, ⊤}
 use Rattle.lei_code.specs.Texts.{Text}
 use Rattle.lei_records.specs.Rows.{text_at}
@@ -10,7 +10,7 @@ use Rattle.copy_csv.specs.Sheets.{SheetRow}
 use Rattle.name_search.specs.declared.faults.TakeFault.{TakeFault}
 use Rattle.name_search.specs.declared.faults.TakeFault.TheVariants as faults
 
--- The key of a row of `lei`, which is its LEI, and the legal name.
+-- The key of a row of `lei`, which is its LEI, and its legal name.
 abbrev pub Name : Type 0
 Name = Text × Text
 
@@ -18,37 +18,37 @@ Name = Text × Text
 abbrev pub named : SheetRow → Name
 named row = (text_at row.texts 1, text_at row.texts 2)
 
--- What an index has of a copy: the number of its publication, which is known in JSON alone, its width, and the key and
--- the name of each row, in the order of the rows.
+-- What an index has of a copy: the number of its publication, its width, and the key and the name of each row, in the
+-- order of the rows. The number is known only in JSON.
 pub record NameTable : Type 0 where
   pub publication : Option ℕ
   pub wide : Bool
   pub names : List Name
 
--- It has the names of these rows, which are rows of `lei` whose keys rise.
+-- The table has the names of these rows, which are rows of `lei` with rising keys.
 pub record IsTableOf (rows : List SheetRow) (table : NameTable) : Type 0 where
   pub rows_are : AreRows Sheet.Lei rows
   pub names_are : table.names ≡ map named rows
 
--- The number of the publication of a copy or a delta, which is known in JSON alone.
+-- The number of the publication of a copy or a delta, which is known only in JSON.
 abbrev pub number_in : Option Head → Option ℕ
 number_in head = option_map (λ head. head.publication) head
 
--- The number of the publication from which a delta goes, which is known in JSON alone.
+-- The number of the publication that a delta starts from, which is known only in JSON.
 abbrev pub base_of : DeltaRead → Option ℕ
 base_of delta = option_map (λ head. head.from) delta.head
 
--- The delta goes from the publication of the copy. In CSV no numbers are known, and nothing is asked.
+-- The delta starts from the copy's publication. In CSV no numbers are known, and nothing is required.
 abbrev pub GoesFrom : NameTable → DeltaRead → Type 0
 GoesFrom table delta = table.publication ≡ base_of delta
 
--- The copy takes the delta: it goes from the copy's publication, and a wide copy takes no narrow delta.
+-- The copy takes the delta: it starts from the copy's publication, and a wide copy takes no narrow delta.
 pub record Takes (table : NameTable) (delta : DeltaRead) : Type 0 where
   pub goes_from : GoesFrom table delta
   pub newer : table.wide ≡ true → delta.wide ≡ true
 
--- Why a copy doesn't take a delta: it goes from another publication, with the numbers of both, or it goes from this one
--- and is narrow, and the copy is wide. Of want of memory nothing is said.
+-- Why a copy doesn't take a delta. Either the delta starts from another publication, and the fault has the numbers of
+-- both; or it starts from this one and is narrow, and the copy is wide. Nothing is said about `NoMemory`.
 abbrev pub IsRefusal : NameTable → DeltaRead → TakeFault → Type 0
 IsRefusal table delta (faults.WrongBase publication from) =
     (table.publication ≡ Some publication) × (base_of delta ≡ Some from) × (publication ≢ from)

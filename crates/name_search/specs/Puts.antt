@@ -13,6 +13,6 @@ named_alone row = named row ∷ []
 abbrev pub put_name : Change → List Name
 put_name change = flat_map named_alone (put_by change)
 
--- Those of all changes, in their order.
+-- The names of the rows that all changes put, in order.
 abbrev pub put_names : List Change → List Name
 put_names changes = flat_map put_name changes

@@ -1,4 +1,4 @@
--- Which rows a search finds, and the pages on which they stand.
+-- Which rows a search finds, and the pages that they are on.
 use Rattle.std.specs.Prelude.{ℕ, ◌-◌, ◌*◌, Bool, List, take, drop, filter}
 use Rattle.std.specs.List.{list_all, list_any}
 use Rattle.std.specs.Str.{bytes_eq}
@@ -18,10 +18,10 @@ has_each wanted these = list_all (is_among these) wanted
 abbrev pub is_match : List Text → Name → Bool
 is_match wanted name = has_each wanted (words name.1)
 
--- The names that have each word of a text, in their order.
+-- The names that have each word of a text, in order.
 abbrev pub found : List Name → Text → List Name
 found names text = filter (is_match (words text)) names
 
--- The names on a page of 50, pages counted from 1. After the last page there are none.
+-- The names on a page of 50; pages are counted from 1. After the last page there are none.
 abbrev pub page_of : ℕ → List Name → List Name
 page_of page names = take 50 (drop (50 * (page - 1)) names)

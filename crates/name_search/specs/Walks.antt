@@ -1,4 +1,4 @@
--- By word, the keys of the rows whose names have it, and a walk over the keys of one word instead of all names.
+-- For each word, the keys of the rows whose names have it, and a walk over the keys of one word instead of all names.
 use Rattle.std.specs.Prelude.{◌≡◌, ◌++◌, ◌&&◌, Bool, true, false, Option, None, Some, List, String, [], ◌∷◌, flat_map, map, if◌then◌else◌}
 use Rattle.std.specs.BTreeMap.{BTreeMap, get_by_text}
 use Rattle.std.specs.BTreeSet.{BTreeSet}
@@ -35,7 +35,7 @@ keys_under postings word = rising_in (get_by_text postings.first word) ++ keys_i
 abbrev pub FirstStays : {Y : Type 0} → BTreeMap (String Y) (List Text) → BTreeMap (String Y) (List Text) → Type 0
 FirstStays old new = (word : Text) → AreKeysOf (rising_in (get_by_text old word)) (rising_in (get_by_text new word))
 
--- Those that a map of sets has under a word stay there.
+-- The keys that a map of sets has under a word stay there.
 abbrev pub LaterStays : {Y : Type 0} → BTreeMap (String Y) (BTreeSet Text) → BTreeMap (String Y) (BTreeSet Text)
     → Type 0
 LaterStays old new = (word : Text) → AreKeysOf (keys_in (get_by_text old word)) (keys_in (get_by_text new word))
@@ -44,27 +44,27 @@ LaterStays old new = (word : Text) → AreKeysOf (keys_in (get_by_text old word)
 abbrev pub is_noted : Postings → Name → Bool
 is_noted postings name = list_all (λ word. is_key name.0 (keys_under postings word)) (words name.1)
 
--- A name was found, and it has a word.
+-- There is a name, and it has a word.
 abbrev pub has_word : Option Name → Text → Bool
 has_word None word = false
 has_word (Some name) word = is_among (words name.1) word
 
--- What is noted in the one is noted in the other.
+-- What is noted in the old postings is noted in the new ones.
 abbrev pub Stays : Postings → Postings → Type 0
 Stays old new = (word key : Text) → is_key key (keys_under old word) ≡ true → is_key key (keys_under new word) ≡ true
 
--- If all of these names are noted in the one, they are noted in the other.
+-- If all of these names are noted in the old postings, they are noted in the new ones.
 abbrev pub StaysFor : List Name → Postings → Postings → Type 0
 StaysFor names old new = list_all (is_noted old) names ≡ true → list_all (is_noted new) names ≡ true
 
--- A key was taken from a word's set, and no other key from any.
+-- No key was removed from any set, except possibly this key from this word's set.
 abbrev pub TakesFrom : {Y : Type 0} → Text → Text → BTreeMap (String Y) (BTreeSet Text)
     → BTreeMap (String Y) (BTreeSet Text) → Type 0
 TakesFrom word key old new =
     (other k : Text) → (bytes_eq word other && bytes_eq key k) ≡ false
     → is_key k (keys_in (get_by_text old other)) ≡ true → is_key k (keys_in (get_by_text new other)) ≡ true
 
--- The names are those of some rows of a copy, and each is noted.
+-- The names are those of a copy's rows, and each is noted.
 pub record IsIndexed (names : List Name) (postings : Postings) : Type 0 where
   pub copy : List SheetRow
   pub copy_is : AreRows Sheet.Lei copy
@@ -73,7 +73,7 @@ pub record IsIndexed (names : List Name) (postings : Postings) : Type 0 where
 
 -- ---- a walk
 
--- The name under a key, if one was found and passes a test.
+-- The name under a key, if there is one and it passes a test.
 abbrev pub hits : (Name → Bool) → Text → Option Text → List Name
 hits test key None = []
 hits test key (Some name) = if test (key, name) then (key, name) ∷ [] else []

@@ -5,23 +5,23 @@ use Rattle.caseless.specs.Caseless.{default_case_fold}
 use Rattle.unicode_normalization.specs.Forms.{nfkc}
 use Rattle.lei_code.specs.Texts.{Text}
 
--- The characters of a text in Normalization Form KC (Unicode Standard Annex #15), and each of these folded by the
--- default case folding (The Unicode Standard, section 3.13).
+-- The characters of a text in Normalization Form KC (Unicode Standard Annex #15), each of them folded by the default
+-- case folding (The Unicode Standard).
 unfoldable pub folded_chars : Text → List ℕ
 folded_chars text = default_case_fold (nfkc (chars text))
 
--- A text is cut at each character of white space (the property White_Space of the Unicode Character Database), and at
--- each one of ASCII that is no letter and no digit.
+-- A text is cut at each white space character (the property White_Space of the Unicode Character Database). It is also
+-- cut at each ASCII character that is neither a letter nor a digit.
 abbrev pub is_separator : ℕ → Bool
 is_separator c = is_whitespace c || (nat_lt c 128 && not (is_ascii_alphanumeric c))
 
--- The first of some texts, with a text before it.
+-- These texts, with a text put in front of the first one.
 abbrev pub with_front : Text → List Text → List Text
 with_front text [] = text ∷ []
 with_front text (first ∷ others) = (text ++ first) ∷ others
 
--- What stands before, between and after the separators among some characters, each piece as its UTF-8 bytes. Between two
--- separators in a row stands an empty piece.
+-- The pieces before, between and after the separators among some characters, each as its UTF-8 bytes. Between two
+-- adjacent separators there is an empty piece.
 abbrev pub pieces : List ℕ → List Text
 pieces [] = [] ∷ []
 pieces (c ∷ cs) = if is_separator c then [] ∷ pieces cs else with_front (encode_utf8 c) (pieces cs)
@@ -31,7 +31,7 @@ abbrev pub is_word : Text → Bool
 is_word [] = false
 is_word (byte ∷ bytes) = true
 
--- The words of a text: the pieces of its folded characters, without the empty ones. A word that occurs twice stands
--- there twice.
+-- The words of a text: the pieces of its folded characters, without the empty ones. A word that occurs twice is in the
+-- list twice.
 unfoldable pub words : Text → List Text
 words text = filter is_word (pieces (folded_chars text))

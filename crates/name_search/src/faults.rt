@@ -1,4 +1,4 @@
-//! Why a delta isn't taken, and why nothing is looked for.
+//! Why a delta isn't taken, and why a search isn't made.
 ghost use Rattle.std.specs.Prelude.{◌≡◌};
 ghost use Rattle.name_search.specs.declared.faults.FindFault.TheVariants as finding;
 ghost use Rattle.name_search.specs.declared.faults.TakeFault.TheVariants as taking;
@@ -9,11 +9,11 @@ use std::alloc::{AllocError, AllocFailed};
 /// Why an index doesn't take a delta.
 #[derive(Clone, Copy, Debug, PartialEq, Eq)]
 pub enum TakeFault {
-    /// In JSON: the number of the copy's publication, and the other one that the delta goes from.
+    /// In JSON: the number of the copy's publication, and the different number that the delta starts from.
     WrongBase(u32, u32),
-    /// In CSV: the copy is wide, and the delta lacks columns that it has.
+    /// In CSV: the copy is wide, and the delta lacks columns that the copy has.
     OlderDelta,
-    /// Memory ran out.
+    /// Out of memory.
     NoMemory,
 }
 
@@ -33,14 +33,14 @@ impl From<AllocError> for TakeFault {
     }
 }
 
-/// Why an index looks for nothing.
+/// Why an index doesn't search.
 #[derive(Clone, Copy, Debug, PartialEq, Eq)]
 pub enum FindFault {
     /// The text has no word.
     NoWord,
     /// The text has more than 8 words. A word that occurs twice counts twice.
     TooManyWords,
-    /// Memory ran out.
+    /// Out of memory.
     NoMemory,
 }
 

@@ -1,10 +1,10 @@
-//! What is found.
+//! The result of a search.
 use lei_outside::{List, Text};
 
 /// What a search found.
 #[derive(Debug, Drop)]
 pub struct Found {
-    /// How many rows match.
+    /// The number of rows that match.
     pub matches: u64,
     /// The key and the name of each match on the page, in the order of the keys.
     pub names: List<(Text, Text)>,

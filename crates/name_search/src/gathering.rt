@@ -1,4 +1,4 @@
-//! Matches, counted, and those on a page put down.
+//! Counts the matches of a search, and keeps those on a page.
 ghost use Rattle.std.specs.Prelude.{◌<◌, ◌++◌, ◌∷◌, [], List, filter, true, option_map, option_to_list, IfOk, OnOk, ◌≡◌};
 ghost use Rattle.name_search.specs.Searching as spec;
 ghost use Rattle.name_search.specs.Keys.{AreKeysOf, text_cmp};
@@ -16,7 +16,7 @@ use lei_outside::{NoMemory, Text};
 use std::alloc::Global;
 use std::collections::BTreeSet;
 
-/// How many matches there are so far, and the names of those on the page.
+/// The number of matches so far, and the names of those on the page.
 #[derive(Drop)]
 pub struct Gathered {
     pub matches: u64,
@@ -24,7 +24,7 @@ pub struct Gathered {
 }
 
 impl Gathered {
-    /// Takes down the next match, for a page that begins after so many.
+    /// Counts the next match, and keeps it if it is on the page, which starts after the first `start` matches.
     pub fn add(&mut self, alloc: Global, start: u64, row: &NamedRow) -> Result<(), NoMemory>
         requires fits { self.old.matches < 18_446_744_073_709_551_615 }
         ensures { OnOk result ((before : List Name)
@@ -44,7 +44,7 @@ impl Gathered {
     }
 }
 
-/// The rows that match, for a page that begins after so many. All rows are looked at.
+/// The rows that match, for a page that starts after the first `start` of them. All rows are looked at.
 pub fn gather_all(
     alloc: Global,
     start: u64,
@@ -63,8 +63,8 @@ pub fn gather_all(
     Ok(gathered)
 }
 
-/// The rows that match, for a page that begins after so many. Only rows under these keys are looked at, which are those
-/// of all rows that match, and maybe others.
+/// The rows that match, for a page that starts after the first `start` of them. Only rows under these keys are looked
+/// at. These are the keys of all rows that match, and maybe others.
 pub fn gather_under(
     alloc: Global,
     start: u64,
@@ -86,7 +86,7 @@ pub fn gather_under(
     }
 }
 
-// The same for keys of which some came with deltas: list and set are put into one set.
+// The same for keys of which some came with deltas: the list and the set are joined in one set.
 fn gather_both(
     alloc: Global,
     start: u64,
@@ -106,7 +106,7 @@ fn gather_both(
     gather_each(alloc, start, wanted, rows, &keys)
 }
 
-// Puts the keys of a list among others.
+// Adds the keys of a list to others.
 fn put_list(keys: &mut Keys, list: &[Key]) -> Result<(), NoMemory>
     ensures stay { AreKeysOf keys.old.keys keys.new.keys }
     ensures put { OnOk result (AreKeysOf list.now keys.new.keys) }
@@ -117,7 +117,7 @@ fn put_list(keys: &mut Keys, list: &[Key]) -> Result<(), NoMemory>
     Ok(())
 }
 
-// Puts the keys of a set among others.
+// Adds the keys of a set to others.
 fn put_set(keys: &mut Keys, set: &Keys) -> Result<(), NoMemory>
     ensures stay { AreKeysOf keys.old.keys keys.new.keys }
     ensures put { OnOk result (AreKeysOf set.now.keys keys.new.keys) }

@@ -1,4 +1,4 @@
-//! The index.
+//! The index, which is opened on a copy, takes deltas and finds rows by words.
 ghost use Rattle.std.specs.Prelude.{◌≡◌, ◌+◌, ◌≤◌, [], List as Items, filter, length, IfErr, IfOk, IsErrOf, OnErr, OnOk, is_some};
 ghost use Rattle.register_words.specs.declared.sheets.Sheet.{Sheet as DeclaredSheet};
 ghost use Rattle.copy_csv.specs.Rows.{AreChanges, AreRows};
@@ -26,8 +26,8 @@ use std::mem;
 use std::sync::ledger::Ledger;
 use worker_pool::Steps;
 
-/// The rows of a golden copy of `lei` by the words of their names. Contracts see the number of the copy's publication,
-/// its width, and the key and the name of each row.
+/// The rows of a golden copy of `lei`, indexed by the words of their names. Contracts see the number of the copy's
+/// publication, its width, and the key and the name of each row.
 #[derive(Drop)]
 pub struct Index {
     alloc: Global,
@@ -79,8 +79,9 @@ impl Index {
         })
     }
 
-    /// Makes of it an index of the copy after a delta that was read, in the form of the copy. Only names of rows that
-    /// the delta puts are folded. The faults are reported in the order of `TakeFault`, and after one it is as it was.
+    /// Makes this the index of the copy as it is after a delta that was read, in the form of the copy. Only names of
+    /// rows that the delta puts are folded. The faults are reported in the order of `TakeFault`. After a fault the
+    /// index is as it was.
     pub fn take<L: Ledger>(
         &mut self,
         delta: &DeltaRead,
@@ -114,7 +115,7 @@ impl Index {
         Ok(())
     }
 
-    // Whether it takes a delta.
+    // Whether the index takes a delta, by its base and its width.
     fn check(&self, delta: &DeltaRead) -> Result<(), TakeFault>
         requires { is_some delta.now.head ≡ is_some self.now.publication }
         ensures ok { OnOk result (Takes self.now delta.now) }
@@ -131,8 +132,8 @@ impl Index {
         Ok(())
     }
 
-    /// The rows whose name has each word of a text: how many they are, and those on a page of 50, in the order of
-    /// their keys. After the last page none is given. The faults are reported in the order of `FindFault`.
+    /// The rows whose names have each word of a text: how many they are, and those on a page of 50, in the order of
+    /// their keys. After the last page there are none. The faults are reported in the order of `FindFault`.
     pub fn find(&self, page: u32, text: &str) -> Result<Found, FindFault>
         requires first { 1 ≤ page }
         requires last { page ≤ 1_000_000 }
@@ -159,8 +160,8 @@ impl Index {
         })
     }
 
-    // The rows that have each of these words, for a page that begins after so many. Only those under the rarest word
-    // are looked at. If these are many, all are: to look at a row costs less than to look one up under its key.
+    // The rows that have each of these words, for a page that starts after the first `start` of them. Only those under
+    // the rarest word are looked at.
     fn gather(&self, start: u64, wanted: &[Text]) -> Result<Gathered, NoMemory>
         requires { 1 ≤ length wanted.now }
         ensures { IfOk result (λ gathered. Gathers start (filter (spec.is_match wanted.now) self.now.names)
@@ -176,7 +177,7 @@ impl Index {
         gather_under(self.alloc, start, wanted, rows, first, later)
     }
 
-    /// The number of its rows.
+    /// The number of rows.
     pub fn rows(&self) -> u64
         ensures { result ≡ length self.now.names }
     {

@@ -1,4 +1,4 @@
-//! Keys that rows and lists of keys have in common.
+//! Keys that rows and lists of keys share.
 ghost use Rattle.std.specs.Prelude.{◌≡◌, ◌==◌, IfOk, Some};
 ghost use Rattle.std.proofs.Common.{rules};
 ghost use Rattle.std.proofs.lemmas.Cmp.{nat_list_cmp_total};
@@ -12,7 +12,8 @@ use std::cmp::Ordering;
 use std::marker::Model;
 use std::sync::Arc;
 
-/// The key of a row. Who holds it once more takes no memory for it. Contracts see its bytes, and keys compare by them.
+/// The key of a row, shared by its holders: another holder needs no copy of its text. Contracts see its bytes, and keys
+/// compare by them.
 #[derive(Drop)]
 pub struct Key {
     text: Arc<Text, Global>,
@@ -28,7 +29,7 @@ impl Model for Key {
 }
 
 impl Key {
-    /// A key in memory of its own.
+    /// A key with its own copy of a text.
     pub fn copy_of(alloc: Global, text: &str) -> Result<Self, NoMemory>
         ensures { IfOk result (λ key. key ≡ text.now) }
     {
@@ -46,7 +47,7 @@ impl Key {
         })
     }
 
-    /// The key, lent.
+    /// The text of the key.
     pub fn as_str(&self) -> &str
         ensures { result.now ≡ self.now }
     {

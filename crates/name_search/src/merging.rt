@@ -1,4 +1,4 @@
-//! The rows of a copy and those of a delta, merged in the order of their keys.
+//! Merges the rows of a copy with those of a delta, in the order of their keys.
 ghost use Rattle.std.specs.Prelude.{◌≡◌, ◌+◌, ◌≤◌, ◌++◌, [], List, drop, length, map, take, true, vec_capacity, IfOk};
 ghost use Rattle.std.specs.FinMap.Entries.{is_sorted};
 ghost use Rattle.std.specs.List.{All};
@@ -31,7 +31,7 @@ pub fn number_of(head: &Option<Head>) -> Option<u32>
     }
 }
 
-/// The keys and names of the rows that changes of `lei` put. Each is a step.
+/// The keys and names of the rows that changes of `lei` put. Each row is a step.
 pub fn named_puts<L: Ledger>(
     alloc: Global,
     changes: &[Change],
@@ -52,9 +52,9 @@ pub fn named_puts<L: Ledger>(
     Ok(made)
 }
 
-/// Puts the rows after the changes into a vector that has room for them: those of a copy, and those that the changes
-/// put, which were made before. Those that go stand in another vector then, each with the place at which a row that was
-/// put instead of it stands. Of the rows between two changes only a few are compared. It takes no memory.
+/// Puts the rows as they are after the changes into a vector that has room for them: those of a copy, and `puts`, the
+/// rows that the changes put. Removed rows go to another vector, each with the index of the row that replaced it, if
+/// one did. The function doesn't allocate memory.
 pub fn merge(
     out: &mut Vec<NamedRow>,
     rows: Vec<NamedRow>,
@@ -88,7 +88,7 @@ pub fn merge(
     move_rows(out, &mut rows, left);
 }
 
-// Moves so many rows from the front of some to the end of others.
+// Moves the first `count` rows of a list to the end of another.
 fn move_rows(out: &mut Vec<NamedRow>, rows: &mut VecDeque<NamedRow>, count: usize)
     requires count { count ≤ length rows.old.items }
     requires room { length out.old.items + count ≤ vec_capacity out.old }
@@ -118,7 +118,7 @@ fn take_first(gone: &mut Vec<(usize, NamedRow)>, place: usize, rows: &mut VecDeq
     gone.push_reserved((place, row));
 }
 
-// Puts the row that a change puts, which is the next of those that were made.
+// Appends the row that a change puts, if it puts one. This is the next one in `puts`.
 fn put_change(out: &mut Vec<NamedRow>, puts: &mut IntoIter<NamedRow>, change: &Change)
     requires room { length out.old.items + length (into_iter_items puts.old) ≤ vec_capacity out.old }
     requires next { (rest : List Name) × (into_iter_items puts.old ≡ put_name change.now ++ rest) }

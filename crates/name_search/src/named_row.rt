@@ -1,4 +1,4 @@
-//! A row as an index has it.
+//! A row as an index keeps it.
 ghost use Rattle.std.specs.Prelude.{◌≡◌, ◌+◌, ◌≤◌, IfOk};
 ghost use Rattle.lei_records.specs.Rows.{text_at};
 ghost use Rattle.register_words.specs.declared.sheets.Sheet.{Sheet as DeclaredSheet};
@@ -49,35 +49,35 @@ impl NamedRow {
         Ok(NamedRow { key, name, words })
     }
 
-    /// Its key.
+    /// The key of the row.
     pub fn key(&self) -> &Key
         ensures { result.now ≡ self.now.0 }
     {
         &self.key
     }
 
-    /// The words of its name.
+    /// The words of the name, in order.
     pub fn words(&self) -> &[Text]
         ensures { result.now ≡ words self.now.1 }
     {
         self.words.as_slice()
     }
 
-    /// Whether its name has a word.
+    /// Whether the name has a word.
     pub fn has_word(&self, word: &str) -> bool
         ensures { result ≡ spec.is_among (words self.now.1) word.now }
     {
         is_among(self.words.as_slice(), word)
     }
 
-    /// Whether its name has each of these words.
+    /// Whether the name has each of these words.
     pub fn is_match(&self, wanted: &[Text]) -> bool
         ensures { result ≡ spec.is_match wanted.now self.now }
     {
         has_each(wanted, self.words.as_slice())
     }
 
-    /// The key and the name, in memory of their own.
+    /// Copies of the key and the name.
     pub fn name(&self, alloc: Global) -> Result<(Text, Text), NoMemory>
         ensures { IfOk result (λ name. name ≡ self.now) }
     {
@@ -87,7 +87,7 @@ impl NamedRow {
     }
 }
 
-/// The text of a row of `lei` at a place, places counted from 1.
+/// The text of a row of `lei` at a place from 1 to 32.
 pub fn text_of(row: &Row, place: usize) -> &str
     requires lei { row.now.sheet ≡ DeclaredSheet.Lei }
     requires first { 1 ≤ place }

@@ -1,4 +1,4 @@
-//! The rows of a copy, made and noted.
+//! Builds and notes the rows of a copy.
 ghost use Rattle.std.specs.Prelude.{◌≡◌, ◌+◌, ◌≤◌, true, length, map, IfOk};
 ghost use Rattle.std.specs.List.{All, list_all};
 ghost use Rattle.register_words.specs.declared.sheets.Sheet.{Sheet as DeclaredSheet};
@@ -14,7 +14,7 @@ use std::alloc::Global;
 use std::sync::ledger::Ledger;
 use worker_pool::Steps;
 
-/// The keys and names of the rows of a copy of `lei`, each noted as soon as it is made. Each is a step.
+/// The keys and names of the rows of a copy of `lei`, each noted as soon as it is built. Each row is a step.
 pub fn noted_rows<L: Ledger>(
     alloc: Global,
     rows: &[Row],

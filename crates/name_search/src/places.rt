@@ -1,4 +1,4 @@
-//! Rows in the order of their keys.
+//! Searches for a row by its key.
 ghost use Rattle.std.specs.Prelude.{◌≡◌, ◌<◌, ◌≤◌, false, length, true, option_map};
 ghost use Rattle.std.specs.FinMap.Entries.{find, is_sorted};
 ghost use Rattle.name_search.specs.Keys.{text_cmp};
@@ -8,7 +8,7 @@ use crate::named_row::NamedRow;
 use std::cmp::Ordering;
 use std::collections::VecDeque;
 
-/// The row of a key among rows in the order of their keys.
+/// The row of a key among rows in the order of their keys, if there is one.
 pub fn row_at<'a>(rows: &'a [NamedRow], key: &str) -> Option<&'a NamedRow>
     requires { is_sorted text_cmp rows.now ≡ true }
     ensures { option_map (λ row. row.now) result
@@ -28,7 +28,7 @@ pub fn row_at<'a>(rows: &'a [NamedRow], key: &str) -> Option<&'a NamedRow>
     None
 }
 
-/// The same, for a key whose row may stand at a place.
+/// The same, for a key whose row may be at this index.
 pub fn row_near<'a>(rows: &'a [NamedRow], key: &str, place: usize) -> Option<&'a NamedRow>
     requires { is_sorted text_cmp rows.now ≡ true }
     ensures { option_map (λ row. row.now) result

@@ -1,4 +1,4 @@
-//! By word, the keys of the rows whose names have it.
+//! For each word, the keys of the rows whose names have it.
 ghost use Rattle.std.specs.Prelude.{◌≡◌, ◌≤◌, ◌<◌, [], length, true, IfOk, option_map, OnOk};
 ghost use Rattle.std.specs.BTreeMap.{get_by_text};
 ghost use Rattle.std.specs.List.{list_all};
@@ -17,12 +17,12 @@ use lei_outside::{NoMemory, Text};
 use std::alloc::Global;
 use std::collections::{BTreeMap, BTreeSet};
 
-/// Keys in their order.
+/// Keys in rising order.
 pub type Keys = BTreeSet<Key>;
 
-/// By word, the keys of the rows whose names have it, and maybe keys of others: those of rows that have gone may stay.
-/// The keys of a copy's rows come in rising order, and stand in lists, which then stay as they are. Those that come
-/// later, with deltas, stand in sets.
+/// For each word, the keys of the rows whose names have it, and maybe others: those of removed rows may stay. The keys
+/// of a copy's rows come in rising order and are kept in lists, which don't change later. Those that come later, with
+/// deltas, are kept in sets.
 #[derive(Drop)]
 pub struct Postings {
     pub alloc: Global,
@@ -42,7 +42,7 @@ impl Postings {
         }
     }
 
-    /// The list of a word's keys.
+    /// The list of a word's keys, without those in its set.
     pub fn first_keys(&self, word: &str) -> &[Key]
         ensures value { result.now ≡ rising_in (get_by_text self.now.first word.now) }
         ensures rising { IsStrictlySortedBy text_cmp result.now }
@@ -60,7 +60,7 @@ impl Postings {
         self.later.get(word)
     }
 
-    /// The place of a word under which no more keys stand than under the others.
+    /// The index of a word under which there are at most as many keys as under each of the others.
     pub fn rarest(&self, wanted: &[Text]) -> usize
         requires { 1 ≤ length wanted.now }
         ensures { result < length wanted.now }
@@ -77,7 +77,7 @@ impl Postings {
         rarest
     }
 
-    /// How many keys stand under a word.
+    /// The number of keys under a word.
     pub fn count(&self, word: &str) -> usize {
         let first = self.first_keys(word).len();
         match self.later_keys(word) {
@@ -138,8 +138,8 @@ impl Postings {
         note_later(self.alloc, &mut self.later, word, key)
     }
 
-    /// Takes the keys of rows that have gone from under their words, unless the row that has the key now has the word.
-    /// With each stands the place at which that row may stand.
+    /// Removes the keys of removed rows from the sets of their words, unless the row that now has the key has the word.
+    /// Each removed row comes with the index at which the row that now has the key may be.
     pub fn forget_all(&mut self, gone: &[(usize, NamedRow)], rows: &[NamedRow])
         requires { is_sorted text_cmp rows.now ≡ true }
         ensures { StaysFor rows.now self.old self.new }
@@ -149,7 +149,7 @@ impl Postings {
         }
     }
 
-    // The same of one row.
+    // The same for one row.
     fn forget(&mut self, gone: &NamedRow, place: usize, rows: &[NamedRow])
         requires { is_sorted text_cmp rows.now ≡ true }
         ensures { StaysFor rows.now self.old self.new }
@@ -166,7 +166,7 @@ impl Postings {
     }
 }
 
-// Puts a key at the end of a word's list, if it comes after the last. Answers whether it stands in the list then.
+// Appends a key to a word's list, if it comes after the last one. `true` says that the list has the key then.
 fn push_first(
     alloc: Global,
     first: &mut BTreeMap<String, RisingKeys>,
@@ -202,7 +202,7 @@ fn push_alone(
     Ok(is_there)
 }
 
-// Puts a key into a word's set.
+// Adds a key to a word's set.
 fn note_later(
     alloc: Global,
     later: &mut BTreeMap<String, Keys>,
@@ -236,7 +236,7 @@ fn note_alone(
     Ok(())
 }
 
-// Takes a key from a word's set.
+// Removes a key from a word's set.
 fn forget_word(later: &mut BTreeMap<String, Keys>, word: &str, key: &Key)
     ensures { TakesFrom word.now key.now later.old later.new }
 {
@@ -245,7 +245,7 @@ fn forget_word(later: &mut BTreeMap<String, Keys>, word: &str, key: &Key)
     }
 }
 
-// Whether a row is there and its name has a word.
+// Whether there is a row and its name has a word.
 fn has_word(row: Option<&NamedRow>, word: &str) -> bool
     ensures { result ≡ spec.has_word (option_map (λ row. row.now) row.entry) word.now }
 {
@@ -255,7 +255,7 @@ fn has_word(row: Option<&NamedRow>, word: &str) -> bool
     }
 }
 
-/// Puts a key among others.
+/// Adds a key to others.
 pub fn note_key(keys: &mut Keys, key: &Key) -> Result<(), NoMemory>
     ensures stay { (k : Bytes) → is_key k keys.old.keys ≡ true → is_key k keys.new.keys ≡ true }
     ensures noted { OnOk result (is_key key.now keys.new.keys ≡ true) }

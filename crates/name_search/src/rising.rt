@@ -13,7 +13,7 @@ use std::alloc::Global;
 use std::cmp::Ordering;
 use std::marker::Model;
 
-/// Keys in rising order, each once. Contracts see the list of them.
+/// Keys in rising order, each once. Contracts see the list of keys.
 #[derive(Drop)]
 pub struct RisingKeys {
     keys: Vec<Key>,
@@ -42,7 +42,7 @@ impl RisingKeys {
         }
     }
 
-    /// The keys, lent.
+    /// The keys as a slice.
     pub fn as_slice(&self) -> &[Key]
         ensures value { result.now ≡ self.now }
         ensures rising { IsStrictlySortedBy (slice_cmp nat_cmp) self.now }
@@ -50,7 +50,8 @@ impl RisingKeys {
         self.keys.as_slice()
     }
 
-    /// Puts a key after the others if it comes after the last. Answers whether it is there then.
+    /// Appends a key if it comes after the last one. Returns `false` if it comes before the last one, and otherwise
+    /// `true`: then the list has the key.
     pub fn push(&mut self, key: &Key) -> Result<bool, NoMemory>
         ensures stay { (k : Bytes) → is_key k self.old ≡ true → is_key k self.new ≡ true }
         ensures is_there { IfOk result (λ is. is ≡ true → is_key key.now self.new ≡ true) }
@@ -65,7 +66,7 @@ impl RisingKeys {
     }
 }
 
-// How a key compares to the last of keys that rise. If there is none, it comes after them.
+// How a key compares with the last of rising keys. If there are none, it comes after them.
 fn order(keys: &[Key], key: &Key) -> Ordering
     requires { IsStrictlySortedBy (slice_cmp nat_cmp) keys.now }
     ensures equal { result ≡ Order.Equal → is_key key.now keys.now ≡ true }

@@ -9,7 +9,7 @@ use std::sync::ledger::Ledger;
 use unicode_normalization::to_nfkc;
 use worker_pool::Steps;
 
-/// The words of a text in their order, each as often as it occurs. It is one step.
+/// The words of a text in order, each as often as it occurs. This is one step.
 pub fn folded<L: Ledger>(
     alloc: Global,
     text: &str,
@@ -22,7 +22,7 @@ pub fn folded<L: Ledger>(
     words_of(alloc, text)
 }
 
-/// The same for a text that is looked for, of which no step is counted.
+/// The same for a text to be searched for, which isn't counted as a step.
 #[tactic(auto, unfolding(crate::specs::Words::words))]
 pub fn words_of(alloc: Global, text: &str) -> Result<List<Text>, NoMemory>
     ensures { IfOk result (λ found. found ≡ spec.words text.now) }
@@ -41,7 +41,7 @@ fn folded_text(alloc: Global, text: &str) -> Result<String, NoMemory>
     Ok(folded)
 }
 
-// The words of a text that is folded already.
+// The words of a text that is already folded.
 fn cut(alloc: Global, text: &str) -> Result<List<Text>, NoMemory>
     ensures { IfOk result (λ found. found ≡ filter spec.is_word (spec.pieces (chars text.now))) }
 {
@@ -58,7 +58,7 @@ fn cut(alloc: Global, text: &str) -> Result<List<Text>, NoMemory>
     Ok(List::from(words))
 }
 
-// Puts a word after the others, if it isn't empty, and leaves it empty.
+// Appends a word if it isn't empty, and clears it.
 fn put_word(alloc: Global, words: &mut Vec<Text>, word: &mut String) -> Result<(), NoMemory>
     ensures words { OnOk result
         (words.new.items ≡ words.old.items ++ filter spec.is_word (string_bytes word.old ∷ [])) }
@@ -72,7 +72,7 @@ fn put_word(alloc: Global, words: &mut Vec<Text>, word: &mut String) -> Result<(
     Ok(())
 }
 
-// Whether a text is cut at a character.
+// Whether a text is cut at this character.
 fn is_separator(c: char) -> bool
     ensures { result ≡ spec.is_separator c }
 {

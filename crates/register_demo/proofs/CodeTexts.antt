@@ -1,4 +1,4 @@
--- A number in 18 digits.
+-- Numbers in 18 digits.
 use Rattle.std.proofs.Common.{◌≡◌, ℕ, ◌+◌, ◌-◌, ◌%◌, ◌/◌, ◌<◌, ◌≤◌, ◌^◌, List, [], ◌∷◌, ◌++◌, length, Bool, true, false, refl, get_or, take, drop, replicate, ap, sym, subst, ◌∙◌, arith, rules}
 use Rattle.std.specs.Prelude.{decimal, All, None, if◌then◌else◌, ◌==◌}
 use Rattle.std.proofs.lemmas.Fmt.{decimal_by_steps, length-decimal-le}
@@ -18,7 +18,7 @@ all-digits = decimal_by_steps (λ _ text. All IsDigit text)
     (λ n small. All-push IsDigit [] (48 + n) (All-nil IsDigit) (omega arith, omega arith))
     (λ n text more all. All-push IsDigit text (48 + n % 10) all (omega arith, omega arith))
 
--- 18 zeros of which the last are the digits
+-- 18 zeros, the last of which were overwritten by the digits
 pub filled : (i at : ℕ) (text : List ℕ) → at + length (decimal i) ≡ 18 → drop at text ≡ decimal i ++ drop 18 (replicate 18 48)
     → take at text ≡ take at (replicate 18 48) → text ≡ in_18_digits i
 filled i at text ends behind before =
@@ -27,7 +27,7 @@ filled i at text ends behind before =
     sym (take-append-drop at text) ∙ ap (λ front. front ++ drop at text) (before ∙ zeros) ∙ ap (λ rest. replicate at 48 ++ rest) (behind ∙ search rules)
     ∙ ap (λ n. replicate n 48 ++ decimal i) is
 
--- each of its characters may stand where it stands
+-- each of its characters is allowed at its place
 pub well-formed : (i : ℕ) → i < 2 ^ 32 → IsWellFormed (in_18_digits i)
 well-formed i small =
     let all : All IsDigit (in_18_digits i) = All-append IsDigit (replicate (18 - length (decimal i)) 48) (decimal i)

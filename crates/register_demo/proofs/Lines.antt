@@ -1,4 +1,4 @@
--- Lines, put one behind the other.
+-- Lines that are appended one after the other.
 use Rattle.std.proofs.Common.{◌≡◌, ℕ, List, [], ◌∷◌, ◌++◌, ap, refl, sym, ◌∙◌, append_assoc}
 use Rattle.std.specs.Prelude.{decimal, flat_map}
 use Rattle.std.proofs.lemmas.List.{append-nil}
@@ -13,14 +13,14 @@ lines-append (x ∷ xs) ys = ap (λ text. line x ++ text) (lines-append xs ys) �
 pub no-lines : (old : List ℕ) → old ≡ old ++ lines_text []
 no-lines old = sym (append-nil old)
 
--- a line of a name and a text more
+-- one more line with a name and a text
 pub put-text : (lines : List (List ℕ × List ℕ)) (name text own : List ℕ) (old before out : List ℕ) → before ≡ old ++ lines_text lines → text ≡ own
     → out ≡ before ++ lines_text ((name, text) ∷ []) → out ≡ old ++ lines_text (lines ++ (name, own) ∷ [])
 put-text lines name text own old before out is same put =
     put ∙ ap (λ xs. before ++ lines_text ((name, xs) ∷ [])) same ∙ ap (λ xs. xs ++ lines_text ((name, own) ∷ [])) is
     ∙ append_assoc old (lines_text lines) (lines_text ((name, own) ∷ [])) ∙ ap (λ xs. old ++ xs) (sym (lines-append lines ((name, own) ∷ [])))
 
--- a line of a name and a number more
+-- one more line with a name and a number
 pub put-number : (lines : List (List ℕ × List ℕ)) (name : List ℕ) (n m : ℕ) (old before out : List ℕ) → before ≡ old ++ lines_text lines → n ≡ m
     → out ≡ before ++ lines_text ((name, decimal n) ∷ []) → out ≡ old ++ lines_text (lines ++ (name, decimal m) ∷ [])
 put-number lines name n m old before out is same put = put-text lines name (decimal n) (decimal m) old before out is (ap decimal same) put

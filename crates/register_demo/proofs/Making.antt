@@ -1,4 +1,4 @@
--- What the parts of a session come to.
+-- The results of the parts of a session.
 use Rattle.std.proofs.Common.{◌≡◌, ℕ, cond, zero-add, suc, ◌+◌, ◌*◌, ◌-◌, ◌≤◌, ◌<◌, List, [], ◌∷◌, ◌++◌, length, refl, sym, ap, subst, ◌∙◌, arith, append_assoc, length-append}
 use Rattle.std.specs.Prelude.{count_by, Err, Ok, Result}
 use Rattle.register_words.specs.declared.sheets.Form.TheVariants.{Csv}
@@ -19,11 +19,11 @@ use Rattle.register_demo.specs.declared.plan.Group.TheVariants.{Records, Relatio
 use Rattle.register_demo.specs.declared.summary.Told.{Told}
 use Rattle.register_demo.proofs.Stages.{answers-append, answers-uploads, length-replies, length-uploads}
 
--- as many replies as blocks
+-- there are as many replies as blocks
 each-told : (office : OfficeState) (count n : ℕ) (group : Group) → length (replies_from office count (uploads_of group n)) ≡ block_count n
 each-told office count n group = length-replies office count (uploads_of group n) ∙ length-uploads group n
 
--- the records were sent behind the accreditations, and published
+-- the records were sent after the accreditations, and published
 pub makes-records : (n behind : ℕ) (o1 o2 o3 o4 : OfficeState) (old new : List ℕ) (first second publication lei copy : Reply)
     → Answers o1 0 accreditations (first ∷ second ∷ []) o2 → new ≡ old ++ texts_of (replies_from o2 2 (uploads_of Records n))
     → o3 ≡ office_from o2 2 (uploads_of Records n) → behind ≡ block_count n + 2
@@ -63,7 +63,7 @@ makes-relationships n count behind o1 o2 o3 old new publication begins texts lea
       texts = texts;
     }
 
--- the records were sent once more, and deltas asked for
+-- the records were sent once more, and the deltas were asked for
 pub repeats : (n count behind told : ℕ) (o1 o2 o3 : OfficeState) (lei rr : Reply)
     → count ≡ 2 * block_count n + 6 → told ≡ count_by is_told (replies_from o1 count (uploads_of Records n))
     → o2 ≡ office_from o1 count (uploads_of Records n) → behind ≡ 3 * block_count n + 6
@@ -81,7 +81,7 @@ repeats n count behind told o1 o2 o3 lei rr begins counted leads is asked legal 
       legal = legal;
     }
 
--- ---- all of them
+-- ---- all requests
 
 nest : {X : Type 0} (a b c d e y : List X) → (a ++ (b ++ c)) ++ ((d ++ e) ++ y) ≡ a ++ (b ++ (c ++ (d ++ (e ++ y))))
 nest a b c d e y =
@@ -105,7 +105,7 @@ texts-append : (xs ys : List Reply) → texts_of (xs ++ ys) ≡ texts_of xs ++ t
 texts-append [] ys = refl
 texts-append (x ∷ xs) ys = ap (λ text. text_of x ++ text) (texts-append xs ys) ∙ sym (append_assoc (text_of x) (texts_of xs) (texts_of ys))
 
--- all requests were answered, and this is told of them
+-- all requests were answered, and this is what the replies say
 pub tells : (n : ℕ) (o1 o2 o3 o4 : OfficeState) (new answers : List ℕ) (first copy second lei rr : Reply) (repeated : ℕ) (told : Told)
     → MakesRecords n o1 o2 [] new first copy → MakesRelationships n o2 o3 new answers second → Repeats n o3 o4 repeated lei rr
     → told.answers.items ≡ answers → told.repeats ≡ repeated → told.publications ≡ count_by is_made (first ∷ second ∷ [])
@@ -155,12 +155,12 @@ tells n o1 o2 o3 o4 new answers first copy second lei rr repeated told a b c is_
       applied = applied;
     }
 
--- how many of two replies tell that a publication was made
+-- how many of two replies say that a publication was made
 pub two-made : (x y : Reply) (m k : ℕ) → m ≡ cond (is_made x) 1 0 → k ≡ cond (is_made y) 1 0 → m + k ≡ count_by is_made (x ∷ y ∷ [])
 two-made x y m k e f =
     ap (λ v. v + k) (e ∙ sym (zero-add (cond (is_made x) 1 0))) ∙ ap (λ v. (0 + cond (is_made x) 1 0) + v) f
 
--- what is answered of a copy and a delta, unless memory was wanting
+-- the answer for a copy and a delta, unless memory ran out
 pub patched : (copy delta : List ℕ) (result : Result (List ℕ) ApplyFault) (size : ℕ) → UnlessNoMemory result (IsAnswer copy delta Rr Csv result)
     → ¬ (result ≡ Err faults.NoMemory) → size ≡ size_of result → IsPatchedSize copy delta size
 patched copy delta (Ok bytes) size is some size_is = record { answer = Ok bytes; is = is; size_is = size_is }

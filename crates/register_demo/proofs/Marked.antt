@@ -1,4 +1,4 @@
--- Places of marks, and digits behind them.
+-- Places of marks, and the digits after them.
 use Rattle.std.proofs.Common.{◌≡◌, ℕ, suc, ◌+◌, ◌-◌, ◌≤◌, ◌<◌, Bool, true, false, cond, List, [], ◌∷◌, ◌++◌, length, drop, take, get_or, Option, Some, None, add-one, append_assoc, ap, sym, subst, refl, ◌∙◌, arith}
 use Rattle.std.specs.Prelude.{slice_get, take_while}
 use Rattle.std.specs.List.{prefix_len}
@@ -8,16 +8,16 @@ use Rattle.memchr.specs.Find.{FindsNeedle, matches}
 use Rattle.memchr.proofs.lemmas.MatchLemmas.{matches-first, matches-none}
 use Rattle.register_demo.specs.Marks.{behind, behind_place}
 
--- what stands behind the place that a search finds
+-- the text after the place that a search finds
 pub found : (mark text : List ℕ) (place : Option ℕ) → FindsNeedle text mark 0 place → behind_place mark text place ≡ behind mark text
 found mark text None is = sym (ap (λ places. behind_place mark text (slice_get places 0)) (matches-none text mark 0 is))
 found mark text (Some at) is = sym (ap (λ places. behind_place mark text (slice_get places 0)) (matches-first text mark 0 at is.0 is.1))
 
--- a part up to the end
+-- the part of a text from a place to its end
 pub to-end : (text : List ℕ) (at : ℕ) → take (length text - at) (drop at text) ≡ drop at text
 to-end text at = take_all (length text - at) (drop at text) (omega (arith, length-drop at text))
 
--- what passes a test at a list's front, where its first does
+-- the prefix of a list whose elements pass a test, if its first element does
 front : (test : ℕ → Bool) (x : ℕ) (xs : List ℕ) → test x ≡ true → take_while test (x ∷ xs) ≡ x ∷ take_while test xs
 front test x xs passes = let P : Bool → Type 0 = λ b. take (cond b (1 + prefix_len test xs) 0) (x ∷ xs) ≡ x ∷ take_while test xs in
     subst P (sym passes) (ap (λ n. take n (x ∷ xs)) (one-more (prefix_len test xs)))

@@ -1,4 +1,4 @@
--- The office that a demo begins with, and the entries that it ends with.
+-- The office that a demo starts with, and the entries that it ends with.
 use Rattle.std.proofs.Common.{◌≡◌, ℕ, List, [], ◌∷◌, ◌++◌, length, Some, refl, sym, ap, subst, ◌∙◌}
 use Rattle.std.specs.Prelude.{slice_get, count_by, ◌-◌}
 use Rattle.lei_outside.specs.Keeping.{KeptTables, Stays, last_number, nothing_kept, number_of}
@@ -23,7 +23,7 @@ use Rattle.register_demo.specs.Session.{IsSummary, IsTold, is_made, is_told, tex
 use Rattle.register_demo.specs.Summary.{delta_lines, lines_text, publication_lines, verdict_lines}
 use Rattle.register_demo.specs.declared.summary.Told.{Told}
 
--- an office of a keeper that has nothing
+-- the office of a keeper that has nothing
 pub begins : (office : OfficeState) (old new : KeptTables) → office.limits ≡ standard → Keeps (Some new) office → new ≡ old → old.entries ≡ []
     → office ≡ opened standard
 begins office old new limits keeps same none =
@@ -35,7 +35,7 @@ unfolding Legal
 undamaged limits tables damage same is =
     damage-excludes limits nothing_kept damage (subst (λ told. IsDamage limits told damage) same is) (tt {0}, keeps-none limits (Some nothing_kept) refl)
 
--- a keeper in memory that has nothing isn't told to be damaged
+-- a keeper in memory that has nothing is never reported as damaged
 pub never_damaged : (limits : Limits) (fault : OpenFault SureKeeperState) (old back : SureKeeperState) (damage : Damage) → fault ≡ StoreDamaged back damage
     → IsRefused limits (λ k. Some (tables_of k)) fault → Stays (Some (tables_of old)) (Some (tables_of (keeper_back fault))) → tables_of old ≡ nothing_kept → ⊥
 never_damaged limits fault old back damage is refused stays none =
@@ -43,7 +43,7 @@ never_damaged limits fault old back damage is refused stays none =
     (subst (λ f. Stays (Some (tables_of old)) (Some (tables_of (keeper_back f)))) is stays ∙ none)
     (subst (λ f. IsRefused limits (λ k. Some (tables_of k)) f) is refused)
 
--- the number of the last entry that a keeper has is how many the office has
+-- the number of a keeper's last entry is how many entries the office has
 pub ends : (office : OfficeState) (tables : KeptTables) → Keeps (Some tables) office → Legal office → last_number tables ≡ length office.history
 ends office tables keeps legal =
     ap (λ entries. number_of (slice_get entries (length entries - 1))) keeps.entries ∙ legal-last office.limits office.history legal
@@ -59,7 +59,7 @@ all-same e e' a a' r r' p p' s s' x x' y y' z i j k l m n o =
     ∙ ap (λ v. text-with e' a' r' v s x y z) l ∙ ap (λ v. text-with e' a' r' p' v x y z) m ∙ ap (λ v. text-with e' a' r' p' s' v y z) n
     ∙ ap (λ v. text-with e' a' r' p' s' x' v z) o
 
--- the summary of what was told
+-- the summary of what the replies say
 pub summed : (n entries : ℕ) (from after : OfficeState) (told : Told) (text : List ℕ) → from ≡ opened standard → IsTold n from after told
     → entries ≡ length after.history → text ≡ told_text entries told → IsSummary n text
 summed n entries from after told text first was count printed =

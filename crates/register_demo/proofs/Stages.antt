@@ -1,4 +1,4 @@
--- Requests that come one after the other.
+-- Requests, one after the other.
 use Rattle.std.proofs.Common.{◌≡◌, ℕ, suc, ◌+◌, ◌-◌, ◌≤◌, ◌<◌, ℤ, Bool, true, false, cond, List, [], ◌∷◌, ◌++◌, length, map, inl, inr, refl, sym, ap, subst, ◌∙◌, arith, append_assoc}
 use Rattle.std.specs.Prelude.{count_by}
 use Rattle.std.specs.List.{range_with_len}
@@ -16,7 +16,8 @@ use Rattle.register_demo.specs.Requests.{Answers, moment_behind, office_from, re
 use Rattle.register_demo.specs.Session.{is_told, text_of, texts_of}
 use Rattle.register_demo.specs.declared.plan.Group.{Group}
 
--- what was done of a list of requests, with those that are left: the texts of the answers, how many were told, and the office
+-- what was done for a list of requests, of which some are left: the texts of the answers, the count of replies with the
+-- status code 200, and the office
 pub record Sending (from : OfficeState) (begin : ℕ) (all : List Request) (old : List ℕ) (office : OfficeState) (count : ℕ) (left : List Request)
     (answers : List ℕ) (told : ℕ) : Type 0 where
   pub texts : answers ++ texts_of (replies_from office count left) ≡ old ++ texts_of (replies_from from begin all)
@@ -69,13 +70,13 @@ sending-all from begin all old office count left answers told is none =
 
 -- ---- the uploads of blocks
 
--- the uploads from a block on are its own and those from the next on
+-- the uploads starting with a block are its own and those starting with the next block
 pub uploads-cut : (group : Group) (n block blocks : ℕ) → block < blocks + 1
     → uploads_from group n block (blocks + 1 - block) ≡ upload_of group n block ∷ uploads_from group n (block + 1) (blocks + 1 - (block + 1))
 uploads-cut group n block blocks within =
     let some : blocks + 1 - block ≡ suc (blocks + 1 - (block + 1)) = omega arith in ap (uploads_from group n block) some
 
--- behind the last block there are none
+-- after the last block there are no uploads
 pub uploads-none : (group : Group) (n block blocks : ℕ) → blocks + 1 ≤ block → uploads_from group n block (blocks + 1 - block) ≡ []
 uploads-none group n block blocks beyond = let none : blocks + 1 - block ≡ 0 = omega arith in ap (uploads_from group n block) none
 
@@ -85,7 +86,7 @@ length-uploads group n = length-map-range_with_len (upload_of group n) 1 (block_
 
 -- ---- one request
 
--- a step that wanted no memory, and at which the keeper didn't fail
+-- a step that didn't run out of memory, and at which the keeper didn't fail
 pub answered-step : (old new : OfficeState) (request : Request) (moment : ℤ) (answered : Reply) → Step old request moment answered new
     → ¬ (answered ≡ Words NoMemory) → ¬ (answered ≡ Words KeeperFault) → (answered ≡ reply old request moment) × (new ≡ next old request moment)
 answered-step old new request moment answered step some sure = elim step [
@@ -94,12 +95,12 @@ answered-step old new request moment answered step some sure = elim step [
   | inr (inr failed) ↦ absurd (sure failed.0)
 ]
 
--- one request alone
+-- a single request
 pub answers-one : (office after : OfficeState) (count : ℕ) (request : Request) (answered : Reply) → answered ≡ reply office request (moment_behind count)
     → after ≡ next office request (moment_behind count) → Answers office count (request ∷ []) (answered ∷ []) after
 answers-one office after count request answered is leads = record { told = ap (λ r. r ∷ []) is; leads = leads }
 
--- ---- requests behind others
+-- ---- requests after others
 
 pub length-replies : (office : OfficeState) (count : ℕ) (requests : List Request) → length (replies_from office count requests) ≡ length requests
 length-replies office count [] = refl
@@ -118,7 +119,7 @@ office-append office count behind [] ys is = let same : count ≡ behind = omega
 office-append office count behind (x ∷ xs) ys is =
     office-append (next office x (moment_behind count)) (count + 1) behind xs ys (omega (arith, is))
 
--- requests and those behind them
+-- requests, followed by more requests
 pub answers-append : (office between after : OfficeState) (count behind : ℕ) (xs ys : List Request) (rs ss : List Reply)
     → Answers office count xs rs between → Answers between behind ys ss after → behind ≡ count + length xs → Answers office count (xs ++ ys) (rs ++ ss) after
 answers-append office between after count behind xs ys rs ss first second is = record {

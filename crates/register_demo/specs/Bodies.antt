@@ -18,17 +18,17 @@ members ((name, text) ∷ next ∷ fields) =
 abbrev pub object_text : List (Text × Text) → Text
 object_text fields = codes "{" ++ members fields
 
--- the elements of an array, with a comma between two
+-- the elements of an array, separated by commas
 abbrev pub elements : List Text → Text
 elements [] = []
 elements (element ∷ []) = element
 elements (element ∷ next ∷ rest) = element ++ (codes "," ++ elements (next ∷ rest))
 
--- the number by which a record is known to its registration authority: each tenth has that of the record before it
+-- the number of a record at its registration authority: each tenth record has that of the record before it
 abbrev pub authority_id : ℕ → ℕ
 authority_id i = if i % 10 == 0 then i - 1 else i
 
--- the fields of the record of a number, with this name, this number at the authority, this LEI and this manager
+-- the fields of a record, with this number in its name, this number at the authority, this LEI and this manager
 abbrev pub fields_of_record : Text → Text → Lei → Lei → List (Text × Text)
 fields_of_record number at_authority lei manager =
     (codes "Entity.EntityCategory", codes "GENERAL")
@@ -68,19 +68,19 @@ fields_of_relationship start parent manager =
     ∷ (codes "Relationship.StartNode", start)
     ∷ []
 
--- The item of a number: a record, or the relationship from its record to that of half the number.
+-- The item of a number: the record of this number, or the relationship from it to the record of half the number.
 abbrev pub item_text : Group → Lei → ℕ → Text
 item_text Records manager i =
     object_text (fields_of_record (decimal i) (decimal (authority_id i)) (demo_code i) manager)
 item_text Relationships manager i = object_text
     (fields_of_relationship (demo_code i) (demo_code (i / 2)) manager)
 
--- what a body begins with
+-- the start of a body
 abbrev pub opening : Group → Text
 opening Records = codes "{\"records\":["
 opening Relationships = codes "{\"relationships\":["
 
--- the numbers from one to another
+-- the numbers from one to another, inclusive
 abbrev pub from_to : ℕ → ℕ → List ℕ
 from_to first last = range_with_len first (last + 1 - first)
 

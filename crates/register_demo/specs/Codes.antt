@@ -3,7 +3,7 @@ use Rattle.std.specs.Prelude.{ℕ, ◌-◌, ◌%◌, ◌==◌, ◌++◌, codes, 
 use Rattle.lei_code.specs.Digits.{digits}
 use Rattle.lei_code.specs.Texts.{Lei, Text}
 
--- a number in 18 decimal digits, with zeros before it
+-- a number in 18 decimal digits, with leading zeros
 abbrev pub in_18_digits : ℕ → Text
 in_18_digits i = replicate (18 - length (decimal i)) 48 ++ decimal i
 

@@ -3,11 +3,12 @@ use Rattle.std.specs.Prelude.{ℕ, ◌+◌, ◌-◌, ◌*◌, ◌/◌, ◌%◌, 
 use Rattle.register_demo.specs.declared.plan.Group.{Group}
 use Rattle.register_demo.specs.declared.plan.Group.TheVariants.{Records, Relationships}
 
--- A register of n records has blocks of 100, of which the last may be shorter.
+-- A register of n records has blocks of 100 records, the last of which may be shorter.
 abbrev pub block_count : ℕ → ℕ
 block_count n = (n + 99) / 100
 
--- The number of the first item of a block: a record each, and a relationship from each record but that of number 1.
+-- The number of the first item of a block. There is a record for each number, and a relationship that starts at each
+-- record except that of number 1.
 abbrev pub first_item : Group → ℕ → ℕ
 first_item Records block = 100 * (block - 1) + 1
 first_item Relationships block = max 2 (100 * (block - 1) + 1)
@@ -16,7 +17,7 @@ first_item Relationships block = max 2 (100 * (block - 1) + 1)
 abbrev pub last_item : ℕ → ℕ → ℕ
 last_item n block = min (100 * block) n
 
--- how many of the blocks 1 to this one have the same issuer as it
+-- how many of the blocks from 1 to this one have the issuer of this one
 abbrev pub turn : ℕ → ℕ
 turn block = (block + 1) / 2
 

@@ -17,7 +17,7 @@ use Rattle.register_demo.specs.Plan.{block_count, upload_number}
 use Rattle.register_demo.specs.declared.plan.Group.{Group}
 use Rattle.register_demo.specs.declared.plan.Group.TheVariants.{Records, Relationships}
 
--- the upload that brings the records of a block, or their relationships
+-- the upload of the records of a block, or of the relationships that start at them
 abbrev pub upload_of : Group → ℕ → ℕ → Request
 upload_of group n block =
     Upload (record {
@@ -27,35 +27,35 @@ upload_of group n block =
           group n block;
     })
 
--- the same of each block from one on, so many of them
+-- the uploads of this many blocks, starting with this one
 abbrev pub uploads_from : Group → ℕ → ℕ → ℕ → List Request
 uploads_from group n block count = map (upload_of group n) (range_with_len block count)
 
--- the same of all blocks
+-- the uploads of all blocks
 abbrev pub uploads_of : Group → ℕ → List Request
 uploads_of group n = uploads_from group n 1 (block_count n)
 
--- both issuers are accredited
+-- the requests to accredit both issuers
 abbrev pub accreditations : List Request
 accreditations = Accredit first_issuer ∷ Accredit second_issuer ∷ []
 
--- the records are published, and two copies are asked for
+-- the request to publish the records, and those for two copies
 abbrev pub first_publication : List Request
 first_publication = Publish 1 ∷ Copy Lei Csv ∷ Copy Rr Csv ∷ []
 
--- the relationships are published too
+-- the request to publish the relationships too
 abbrev pub second_publication : List Request
 second_publication = Publish 2 ∷ []
 
--- the moment of the request behind so many others: 2025-01-01T00:00:00Z, and a second later each
+-- the moment of the request that follows this many others: 2025-01-01T00:00:00Z, and a second later for each of them
 abbrev pub moment_behind : ℕ → ℤ
 moment_behind count = pos (1_735_689_600 + count)
 
--- the moments of requests, of which the first comes behind so many others
+-- the moments of requests, the first of which follows this many others
 abbrev pub moments_of : ℕ → List Request → List ℤ
 moments_of count requests = map moment_behind (range_with_len count (length requests))
 
--- what an office answers to requests, of which the first comes behind so many others
+-- what an office replies to requests, the first of which follows this many others
 abbrev pub replies_from : OfficeState → ℕ → List Request → List Reply
 replies_from office count requests = replies_to office (map Ask requests) (moments_of count requests)
 
@@ -65,11 +65,11 @@ office_after office [] moments = office
 office_after office (request ∷ requests) [] = office
 office_after office (request ∷ requests) (m ∷ moments) = office_after (next office request m) requests moments
 
--- the office after requests, of which the first comes behind so many others
+-- the office after requests, the first of which follows this many others
 abbrev pub office_from : OfficeState → ℕ → List Request → OfficeState
 office_from office count requests = office_after office requests (moments_of count requests)
 
--- These are the replies to requests, of which the first comes behind so many others, and this is the office after them.
+-- These are the replies to requests, the first of which follows this many others, and this is the office after them.
 pub record Answers (office : OfficeState) (count : ℕ) (requests : List Request) (replies : List Reply)
     (after : OfficeState) : Type 0 where
   pub told : replies ≡ replies_from office count requests
@@ -79,14 +79,14 @@ pub record Answers (office : OfficeState) (count : ℕ) (requests : List Request
 abbrev pub deltas : List Request
 deltas = Delta (Number 1) Lei Csv ∷ Delta (Number 1) Rr Csv ∷ []
 
--- all requests: the issuers are accredited, the records are sent and published, then the relationships, the records are
--- sent once more, and the deltas are asked for
+-- all requests. The issuers are accredited. The records are sent and published, and two copies are asked for. The
+-- relationships are sent and published. The records are sent once more, and the deltas are asked for
 abbrev pub demo_requests : ℕ → List Request
 demo_requests n =
     accreditations ++ (uploads_of Records n
     ++ (first_publication ++ (uploads_of Relationships n ++ (second_publication
     ++ (uploads_of Records n ++ deltas)))))
 
--- how many they are
+-- how many requests these are
 abbrev pub request_count : ℕ → ℕ
 request_count n = 3 * block_count n + 8

@@ -1,4 +1,4 @@
--- What is answered to the requests that make a register, and what is told of that.
+-- The replies to the requests that make a register, and what they say about it.
 use Rattle.std.specs.Prelude.{◌≡◌, ℕ, ◌+◌, ◌*◌, Bool, ◌==◌, List, [], ◌∷◌, ◌++◌, count_by, flat_map, length, Result, Ok, Err}
 use Rattle.register_words.specs.declared.sheets.Form.TheVariants.{Csv}
 use Rattle.register_words.specs.declared.sheets.Sheet.TheVariants.{Rr}
@@ -18,12 +18,12 @@ use Rattle.register_demo.specs.Summary.{delta_lines, lines_text, publication_lin
 use Rattle.register_demo.specs.declared.plan.Group.TheVariants.{Records, Relationships}
 use Rattle.register_demo.specs.declared.summary.Told.{Told}
 
--- the text of a reply; nothing of a refusal
+-- the text of a reply, which is empty for a refusal
 abbrev pub text_of : Reply → Text
 text_of (replies.Text code kind text) = text
 text_of (replies.Words refusal) = []
 
--- the reply tells a text: its status code is 200
+-- the reply has a text, with the status code 200
 abbrev pub is_told : Reply → Bool
 is_told reply = reply_status_code reply == 200
 
@@ -31,15 +31,15 @@ is_told reply = reply_status_code reply == 200
 abbrev pub is_made : Reply → Bool
 is_made reply = reply_status_code reply == 201
 
--- the texts of replies, one behind the other
+-- the texts of replies, one after the other
 abbrev pub texts_of : List Reply → Text
 texts_of replies = flat_map text_of replies
 
 -- ---- the replies, step by step
 
--- The replies to the requests that make a register: to the accreditations, to the uploads of records, to the
--- publication and the copies, to the uploads of relationships, to the second publication, to the repeated uploads, and
--- to the deltas.
+-- The replies to the requests that make a register. First come those to the accreditations, the uploads of records, the
+-- publication and the copies. Then come those to the uploads of relationships, the second publication, the repeated
+-- uploads and the deltas.
 pub record DemoReplies : Type 0 where
   pub first_issuer : Reply
   pub second_issuer : Reply
@@ -61,33 +61,33 @@ in_order told =
     ++ (told.relationships ++
     ((told.second_publication ∷ []) ++ (told.repeats ++ (told.lei_delta ∷ told.rr_delta ∷ []))))))
 
--- These are the replies of an office to the requests that make a register of n records: one to each upload of a block,
--- and all of them in the order of the requests.
+-- These are the replies of an office to the requests that make a register of n records. There is one to each upload of
+-- a block, and all of them are in the order of the requests.
 pub record AreReplies (office : OfficeState) (n : ℕ) (told : DemoReplies) : Type 0 where
   pub all : in_order told ≡ replies_from office 0 (demo_requests n)
   pub records : length told.records ≡ block_count n
   pub relationships : length told.relationships ≡ block_count n
   pub repeats : length told.repeats ≡ block_count n
 
--- how many bytes the patched copy has, and 0 where there is none
+-- how many bytes the patched copy has, or 0 if there is none
 abbrev pub size_of : Result Text ApplyFault → ℕ
 size_of (Ok bytes) = length bytes
 size_of (Err fault) = 0
 
--- so many bytes are answered where the delta of relationships is applied to their copy
+-- this is the size in bytes of the answer when the delta of relationships is applied to their copy
 pub record IsPatchedSize (copy delta : Text) (size : ℕ) : Type 0 where
   pub answer : Result Text ApplyFault
   pub is : IsAnswer copy delta Rr Csv answer
   pub size_is : size ≡ size_of answer
 
--- how many entries an office has that was asked for a register of n records
+-- how many entries an office has after the requests that make a register of n records
 abbrev pub entries_after : OfficeState → ℕ → ℕ
 entries_after office n = length (office_from office 0 (demo_requests n)).history
 
 -- ---- the summary
 
--- The summary of these replies of an office, where the patched copy has so many bytes: the verdicts are counted in the
--- answers to the uploads of records and of relationships alone.
+-- The summary of these replies of an office, if the patched copy has this many bytes. The verdicts are counted only in
+-- the answers to the uploads of records and of relationships, without the repeats.
 abbrev pub summary_text : OfficeState → ℕ → DemoReplies → ℕ → Text
 summary_text office n told applied = lines_text (
     verdict_lines (entries_after office n) (texts_of (told.records ++ told.relationships))
@@ -96,7 +96,7 @@ summary_text office n told applied = lines_text (
     (text_of told.second_publication)
     ++ delta_lines (rows_in (text_of told.lei_delta)) (rows_in (text_of told.rr_delta)) applied))
 
--- The text is the summary of a register of n records, made by an office that took nothing before and has the standard
+-- The text is the summary of a register of n records, made by an office that had no entries before and has the standard
 -- limits.
 pub record IsSummary (n : ℕ) (text : Text) : Type 0 where
   pub told : DemoReplies
@@ -128,7 +128,8 @@ pub record MakesRelationships (n : ℕ) (office after : OfficeState) (old new : 
   pub each : length relationships ≡ block_count n
   pub texts : new ≡ old ++ texts_of relationships
 
--- The records were sent once more, of which so many were told, and these deltas were asked for.
+-- The records were sent once more, and this many of the replies have the status code 200. Then these deltas were asked
+-- for.
 pub record Repeats (n : ℕ) (office after : OfficeState) (told : ℕ) (lei_delta rr_delta : Reply) : Type 0 where
   pub replies : List Reply
   pub answers : Answers office (2 * block_count n + 6) (uploads_of Records n ++ deltas)
@@ -137,7 +138,7 @@ pub record Repeats (n : ℕ) (office after : OfficeState) (told : ℕ) (lei_delt
   pub count : told ≡ count_by is_told replies
   pub legal : Legal after
 
--- What is told of a register that an office made.
+-- What the replies say about a register that an office made.
 pub record IsTold (n : ℕ) (office after : OfficeState) (told : Told) : Type 0 where
   pub replies : DemoReplies
   pub are : AreReplies office n replies
@@ -152,7 +153,7 @@ pub record IsTold (n : ℕ) (office after : OfficeState) (told : Told) : Type 0 
   pub relationships : told.relationships ≡ rows_in (text_of replies.rr_delta)
   pub applied : IsPatchedSize (text_of replies.rr_copy) (text_of replies.rr_delta) told.applied
 
--- the summary of a register with so many entries, of which this was told
+-- the summary of a register with this many entries, about which the replies say this
 abbrev pub told_text : ℕ → Told → Text
 told_text entries told = lines_text (verdict_lines entries told.answers.items
     ++ (publication_lines told.repeats told.publications told.published

@@ -11,8 +11,8 @@ line (name, number) = name ++ (codes " " ++ (number ++ codes "\n"))
 abbrev pub lines_text : List (Text × Text) → Text
 lines_text lines = flat_map line lines
 
--- What is counted: how many entries the register has, and in the answers to uploads how many items were accepted, and
--- how many were rejected by each of three checks.
+-- What is counted: the entries of the register, and in the answers to uploads the accepted items and the items that
+-- each of three checks rejected.
 abbrev pub verdict_lines : ℕ → Text → List (Text × Text)
 verdict_lines entries answers =
     (codes "entries", decimal entries)
@@ -22,8 +22,8 @@ verdict_lines entries answers =
     ∷ (codes "rejected C33", decimal (times (codes "\"C33 ") answers))
     ∷ []
 
--- How many uploads were repeated and publications made, and how many records and relationships the answer to a
--- publication tells.
+-- How many uploads were repeated, how many publications were made, and how many records and relationships the answer to
+-- a publication reports.
 abbrev pub publication_lines : ℕ → ℕ → Text → List (Text × Text)
 publication_lines repeats publications answer =
     (codes "repeats", decimal repeats)
@@ -32,7 +32,7 @@ publication_lines repeats publications answer =
     ∷ (codes "rr", digits_behind (codes "\"rr\":") answer)
     ∷ []
 
--- How many rows the deltas have, and how many bytes the patched copy.
+-- How many rows the deltas have, and how many bytes the patched copy has.
 abbrev pub delta_lines : ℕ → ℕ → ℕ → List (Text × Text)
 delta_lines records relationships applied =
     (codes "delta lei", decimal records)

@@ -1,4 +1,4 @@
-// Requests, put to an office one after the other.
+//! Puts requests to an office, one after the other.
 ghost use Rattle.std.specs.Prelude.{◌≡◌, ◌↔◌, ◌≤◌, ◌+◌, ◌-◌, ◌++◌, count_by, IfOk, IsTrue, OnOk};
 ghost use Rattle.register_history.specs.Legal.{Legal};
 ghost use Rattle.register_words.specs.Requests.{IsNumbered};
@@ -19,7 +19,7 @@ use std::thread::Threads;
 // 2025-01-01T00:00:00Z.
 const FIRST_MOMENT: i64 = 1_735_689_600;
 
-// The moment of the request behind so many others.
+// The moment of the request that follows this many others.
 fn moment_behind(count: u32) -> Moment
     ensures { result ≡ moment_behind count }
 {
@@ -29,7 +29,7 @@ fn moment_behind(count: u32) -> Moment
     }
 }
 
-/// The text of a reply; nothing of a refusal.
+/// The text of a reply, which is empty for a refusal.
 pub fn text_of(reply: &Reply) -> &[u8]
     ensures { result.now ≡ text_of reply.now }
 {
@@ -39,7 +39,7 @@ pub fn text_of(reply: &Reply) -> &[u8]
     }
 }
 
-// The upload that brings the records of a block, or their relationships.
+// The upload of the records of a block, or of the relationships that start at them.
 fn upload_of(alloc: Global, group: Group, n: u32, block: u32) -> Result<Request, NoMemory>
     requires least { 2 ≤ n }
     requires most { n ≤ 100_000 }
@@ -57,7 +57,7 @@ fn upload_of(alloc: Global, group: Group, n: u32, block: u32) -> Result<Request,
     }))
 }
 
-/// Puts a request behind so many others to the office. Want of memory alone keeps it from being answered.
+/// Puts a request to the office, after this many others. It stays unanswered only if memory runs out.
 pub fn ask<R: Threads + Sync>(
     rt: &R,
     office: &mut Office<SureKeeper>,
@@ -78,14 +78,15 @@ pub fn ask<R: Threads + Sync>(
     Ok(reply)
 }
 
-// Whether a reply is that memory was wanting.
+// Whether a reply says that memory ran out.
 fn is_no_memory(reply: &Reply) -> bool
     ensures { IsTrue result ↔ (reply.now ≡ Reply.Words Refusal.NoMemory) }
 {
     matches!(reply, Reply::Words(Refusal::NoMemory))
 }
 
-// Sends the upload of a block, and puts the text of its answer after the others. Says whether one was told.
+// Sends the upload of a block, and appends the text of its answer to the others. Returns whether the reply has the
+// status code 200.
 fn send_block<R: Threads + Sync>(
     rt: &R,
     alloc: Global,
@@ -113,8 +114,8 @@ fn send_block<R: Threads + Sync>(
     Ok(reply.status_code() == 200)
 }
 
-/// Sends the uploads of a group, and puts the texts of the answers after the others. Says how many were told. After each
-/// upload the sink is asked to report how many of all requests were answered.
+/// Sends the uploads of a group, and appends the texts of the answers to the others. Returns how many of the replies
+/// have the status code 200. After each upload the sink reports how many of all requests were answered.
 pub fn send_uploads<R: Threads + Sync, W: Sink>(
     rt: &R,
     alloc: Global,

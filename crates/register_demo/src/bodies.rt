@@ -1,4 +1,4 @@
-//! The bodies of the uploads.
+//! Builds the bodies of the uploads.
 ghost use Rattle.std.specs.Prelude.{◌≡◌, ◌≤◌, ◌++◌, decimal, flat_map, map, IfOk, OnOk};
 ghost use Rattle.register_demo.specs.Bodies.{authority_id, block_body, elements, from_to, item_text, opening};
 ghost use Rattle.register_demo.specs.Plan.{block_count};
@@ -9,7 +9,7 @@ use itoa::Buffer;
 use lei_outside::{NoMemory, Shared};
 use std::alloc::Global;
 
-// About how many bytes the body of a block takes.
+// Roughly how many bytes the body of a block has.
 const ROOM: usize = 131_072;
 
 // A record up to the number in its name.
@@ -76,7 +76,7 @@ const TO_START: &str = concat!(
 // From there to its end.
 const TO_END: &str = "\"}";
 
-// Puts the pieces behind what is there.
+// Appends the pieces.
 fn put_all(out: &mut Vec<u8>, pieces: &[&str]) -> Result<(), NoMemory>
     ensures { OnOk result (out.new.items ≡ out.old.items ++ flat_map (λ piece. piece.now) pieces.now) }
 {
@@ -86,14 +86,14 @@ fn put_all(out: &mut Vec<u8>, pieces: &[&str]) -> Result<(), NoMemory>
     Ok(())
 }
 
-// The number of a record at its registration authority.
+// The number of a record at its registration authority. Each tenth record has that of the record before it.
 fn authority_id(i: u32) -> u32
     ensures { result ≡ authority_id i }
 {
     if i % 10 == 0 { i.saturating_sub(1) } else { i }
 }
 
-// Puts the record of a number, up to its LEI.
+// Appends the record of a number, up to its LEI.
 fn put_names(out: &mut Vec<u8>, i: u32) -> Result<(), NoMemory>
     ensures { OnOk result (out.new.items
         ≡ out.old.items ++ (TO_NAME.now
@@ -108,7 +108,7 @@ fn put_names(out: &mut Vec<u8>, i: u32) -> Result<(), NoMemory>
     )
 }
 
-// Puts the record of a number.
+// Appends the record of a number.
 fn put_record(out: &mut Vec<u8>, manager: &str, i: u32) -> Result<(), NoMemory>
     ensures { OnOk result (out.new.items ≡ out.old.items ++ item_text Group.Records manager.now i) }
 {
@@ -118,7 +118,7 @@ fn put_record(out: &mut Vec<u8>, manager: &str, i: u32) -> Result<(), NoMemory>
     Ok(())
 }
 
-// Puts the relationship that starts at the record of a number.
+// Appends the relationship that starts at the record of a number.
 fn put_relationship(out: &mut Vec<u8>, manager: &str, i: u32) -> Result<(), NoMemory>
     ensures { OnOk result (out.new.items ≡ out.old.items ++ item_text Group.Relationships manager.now i) }
 {
@@ -130,7 +130,7 @@ fn put_relationship(out: &mut Vec<u8>, manager: &str, i: u32) -> Result<(), NoMe
     Ok(())
 }
 
-// Puts the item of a number.
+// Appends the item of a number.
 fn put_item(out: &mut Vec<u8>, group: Group, manager: &str, i: u32) -> Result<(), NoMemory>
     ensures { OnOk result (out.new.items ≡ out.old.items ++ item_text group manager.now i) }
 {
@@ -140,7 +140,7 @@ fn put_item(out: &mut Vec<u8>, group: Group, manager: &str, i: u32) -> Result<()
     }
 }
 
-// Puts the items from one number to another.
+// Appends the items from one number to another, separated by commas.
 fn put_items(
     out: &mut Vec<u8>,
     group: Group,
@@ -160,7 +160,7 @@ fn put_items(
     Ok(())
 }
 
-// What a body begins with.
+// The start of a body.
 fn opening(group: Group) -> &'static str
     ensures { result.now ≡ opening group }
 {

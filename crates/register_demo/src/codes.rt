@@ -1,4 +1,4 @@
-// Made-up LEIs, and the issuers that manage them.
+//! Made-up LEIs, and the issuers that manage them.
 ghost use Rattle.std.specs.Prelude.{◌≡◌, ◌++◌, OnOk};
 ghost use Rattle.lei_code.specs.Code.{IsWellFormed};
 ghost use Rattle.lei_code.specs.Digits.{digits};
@@ -35,7 +35,7 @@ pub fn issuer_of(block: u32) -> Lei
     }
 }
 
-// A number in 18 decimal digits, with zeros before it.
+// A number in 18 decimal digits, with leading zeros.
 fn in_18_digits(i: u32) -> [u8; 18]
     ensures { result ≡ in_18_digits i }
 {
@@ -44,7 +44,7 @@ fn in_18_digits(i: u32) -> [u8; 18]
     text
 }
 
-// The check digits of a code's first 18 characters.
+// The check digits for the first 18 characters of a code.
 fn check_of(text: &[u8; 18]) -> [u8; 2]
     requires { IsWellFormed text.now }
     ensures { result ≡ digits text.now }
@@ -55,7 +55,7 @@ fn check_of(text: &[u8; 18]) -> [u8; 2]
     }
 }
 
-/// Puts the LEI of a number behind what is there.
+/// Appends the LEI of a number.
 pub fn put_code(out: &mut Vec<u8>, i: u32) -> Result<(), NoMemory>
     ensures { OnOk result (out.new.items ≡ out.old.items ++ demo_code i) }
 {

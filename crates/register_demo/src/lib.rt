@@ -1,4 +1,4 @@
-//! A register of made-up records: the requests that make it, and a summary of what is answered to them.
+//! A register of made-up records: the requests that make it, and a summary of the replies.
 #![tactic(auto)]
 
 mod asking;

@@ -1,10 +1,10 @@
-// What is read off texts.
+//! Reads numbers from texts.
 ghost use Rattle.std.specs.Prelude.{◌≡◌, ◌≤◌, ◌+◌, length};
 ghost use Rattle.register_demo.specs.Marks.{behind, digits_behind, rows_in, times};
 
 use memchr::{memchr_iter, memmem};
 
-/// How often a mark stands in a text.
+/// How often a mark occurs in a text, at places that don't overlap.
 pub fn times(mark: &[u8], text: &[u8]) -> usize
     ensures value { result ≡ times mark.now text.now }
     ensures most { result ≤ length text.now + 1 }
@@ -12,7 +12,7 @@ pub fn times(mark: &[u8], text: &[u8]) -> usize
     memmem::find_iter(text, mark).count()
 }
 
-// The text behind the first place at which a mark stands in it.
+// The text after the first place of a mark, which is empty if the mark doesn't occur.
 fn behind<'a>(mark: &[u8], text: &'a [u8]) -> &'a [u8]
     ensures { result.now ≡ behind mark.now text.now }
 {
@@ -22,7 +22,7 @@ fn behind<'a>(mark: &[u8], text: &'a [u8]) -> &'a [u8]
     }
 }
 
-/// The decimal digits that follow the first such place.
+/// The decimal digits that follow the first place of a mark.
 pub fn digits_behind<'a>(mark: &[u8], text: &'a [u8]) -> &'a [u8]
     ensures { result.now ≡ digits_behind mark.now text.now }
 {
@@ -34,7 +34,7 @@ pub fn digits_behind<'a>(mark: &[u8], text: &'a [u8]) -> &'a [u8]
     &rest[..end]
 }
 
-/// How many rows a file in CSV has.
+/// How many rows a CSV file has, without its head.
 pub fn rows_in(text: &[u8]) -> usize
     ensures { result ≡ rows_in text.now }
 {

@@ -3,16 +3,16 @@ ghost use Rattle.std.specs.Prelude.{◌≡◌, ◌≤◌};
 ghost use Rattle.register_demo.specs.Requests.{request_count};
 ghost use Rattle.register_demo.specs.Plan.{block_count, first_item, last_item, turn, turns, upload_number};
 
-/// What an upload brings of a block.
+/// Which items of a block an upload brings.
 #[derive(Clone, Copy, Debug, PartialEq, Eq)]
 pub enum Group {
-    /// Its records.
+    /// The records of the block.
     Records,
-    /// The relationships that start at them.
+    /// The relationships that start at these records.
     Relationships,
 }
 
-/// The uploads of a group of a register of `n` records, one a block, which come after `count` other requests.
+/// The uploads of a group for a register of `n` records, one for each block, after `count` other requests.
 #[derive(Clone, Copy)]
 pub struct Uploads {
     pub group: Group,
@@ -20,7 +20,7 @@ pub struct Uploads {
     pub count: u32,
 }
 
-/// How many blocks a register of so many records has.
+/// How many blocks a register of this many records has.
 pub fn block_count(n: u32) -> u32
     requires { n ≤ 100_000 }
     ensures value { result ≡ block_count n }
@@ -80,7 +80,7 @@ pub fn upload_number(group: Group, n: u32, block: u32) -> u32
     }
 }
 
-/// How many requests make a register of so many records.
+/// How many requests make a register of this many records.
 pub fn request_count(n: u32) -> u32
     requires { n ≤ 100_000 }
     ensures { result ≡ request_count n }

@@ -1,4 +1,4 @@
-// The requests of a session, and what is told of the replies.
+//! The requests of a session, and what their replies say.
 ghost use Rattle.std.specs.Prelude.{◌≡◌, ◌≤◌, ◌+◌, ◌*◌, ◌∷◌, [], cond, IfOk, OnOk};
 ghost use Rattle.register_history.specs.Legal.{Legal};
 ghost use Rattle.register_words.specs.declared.reply.Reply.{Reply as Answer};
@@ -28,8 +28,8 @@ fn accredit<R: Threads + Sync>(rt: &R, office: &mut Office<SureKeeper>) -> Resul
     Ok(())
 }
 
-// Publishes the records behind so many requests, and asks for the copies of records and of relationships. What tells
-// the publication is answered, and the second copy.
+// Publishes the records after this many requests, and asks for the copies of records and of relationships. Returns the
+// replies to the publication and to the request for the second copy.
 fn publish_records<R: Threads + Sync>(
     rt: &R,
     office: &mut Office<SureKeeper>,
@@ -45,7 +45,7 @@ fn publish_records<R: Threads + Sync>(
     Ok((published, copy))
 }
 
-// Asks for the deltas of records and of relationships behind so many requests.
+// Asks for the deltas of records and of relationships, after this many requests.
 fn ask_for_deltas<R: Threads + Sync>(
     rt: &R,
     office: &mut Office<SureKeeper>,
@@ -72,7 +72,7 @@ fn ask_for_deltas<R: Threads + Sync>(
     Ok((records, relationships))
 }
 
-// Has the records sent and published.
+// Sends the records, and publishes them.
 fn make_records<R: Threads + Sync, W: Sink>(
     rt: &R,
     alloc: Global,
@@ -98,7 +98,7 @@ fn make_records<R: Threads + Sync, W: Sink>(
     Ok(told)
 }
 
-// Has the relationships sent and published.
+// Sends the relationships, and publishes them.
 fn make_relationships<R: Threads + Sync, W: Sink>(
     rt: &R,
     alloc: Global,
@@ -124,7 +124,7 @@ fn make_relationships<R: Threads + Sync, W: Sink>(
     Ok(published)
 }
 
-// Has the records sent once more, and asks for the deltas.
+// Sends the records once more, and asks for the deltas.
 fn repeat_records<R: Threads + Sync, W: Sink>(
     rt: &R,
     alloc: Global,
@@ -150,7 +150,7 @@ fn repeat_records<R: Threads + Sync, W: Sink>(
     Ok((told, deltas))
 }
 
-// How many bytes the copy of relationships has after their delta.
+// How many bytes the copy of relationships has after their delta was applied, or 0 if it can't be applied.
 fn patched_size(alloc: Global, copy: &[u8], delta: &[u8]) -> Result<usize, NoMemory>
     ensures { IfOk result (IsPatchedSize copy.now delta.now) }
 {
@@ -161,7 +161,7 @@ fn patched_size(alloc: Global, copy: &[u8], delta: &[u8]) -> Result<usize, NoMem
     }
 }
 
-// How many publications a reply tells to be made.
+// How many publications a reply says were made: 1 or none.
 fn made(reply: &Reply) -> u32
     ensures value { result ≡ cond (is_made reply.now) 1 0 }
     ensures most { result ≤ 1 }
@@ -169,7 +169,7 @@ fn made(reply: &Reply) -> u32
     u32::from(reply.status_code() == 201)
 }
 
-/// Has an office make a register of so many records, and says what is told of it.
+/// Makes a register of this many records with an office, and returns what the replies say about it.
 pub fn make<R: Threads + Sync, W: Sink>(
     rt: &R,
     alloc: Global,

@@ -1,4 +1,4 @@
-// The summary, printed.
+//! Prints the summary.
 ghost use Rattle.std.specs.Prelude.{◌≡◌, ◌++◌, ◌∷◌, [], decimal, IfOk, OnOk};
 ghost use Rattle.register_demo.specs.Summary.{delta_lines, lines_text, publication_lines, verdict_lines};
 
@@ -7,26 +7,26 @@ use itoa::Buffer;
 use lei_outside::{Bytes, NoMemory};
 use std::alloc::Global;
 
-/// What is told of a register that was made.
+/// What the replies say about a register that was made.
 #[derive(Drop)]
 pub struct Told {
-    /// The answers to its uploads, one behind the other.
+    /// The answers to its uploads, one after the other, without those to repeats.
     pub answers: Vec<u8>,
-    /// How many uploads were repeated.
+    /// How many repeated uploads got a reply with the status code 200.
     pub repeats: u32,
     /// How many publications were made.
     pub publications: u32,
-    /// The answer to the last of them.
+    /// The answer to the last publication.
     pub published: Bytes,
     /// How many rows the delta of records has.
     pub records: usize,
     /// How many rows the delta of relationships has.
     pub relationships: usize,
-    /// How many bytes the patched copy has.
+    /// How many bytes the patched copy of relationships has.
     pub applied: usize,
 }
 
-// Puts a line of a name and the digits of a number.
+// Appends a line with a name and the digits of a number.
 fn put_digits(out: &mut Vec<u8>, name: &str, digits: &[u8]) -> Result<(), NoMemory>
     ensures { OnOk result (out.new.items ≡ out.old.items ++ lines_text ((name.now, digits.now) ∷ [])) }
 {
@@ -37,7 +37,7 @@ fn put_digits(out: &mut Vec<u8>, name: &str, digits: &[u8]) -> Result<(), NoMemo
     Ok(())
 }
 
-// Puts a line of a name and a number.
+// Appends a line with a name and a number.
 fn put_number(out: &mut Vec<u8>, name: &str, number: u64) -> Result<(), NoMemory>
     ensures { OnOk result (out.new.items ≡ out.old.items ++ lines_text ((name.now, decimal number) ∷ [])) }
 {
@@ -45,7 +45,7 @@ fn put_number(out: &mut Vec<u8>, name: &str, number: u64) -> Result<(), NoMemory
     put_digits(out, name, digits.format(number).as_bytes())
 }
 
-// Puts how many entries there are, and how many items were accepted and rejected.
+// Appends lines that say how many entries there are, and how many items were accepted and rejected.
 fn put_verdicts(out: &mut Vec<u8>, entries: u64, answers: &[u8]) -> Result<(), NoMemory>
     ensures { OnOk result (out.new.items ≡ out.old.items ++ lines_text (verdict_lines entries answers.now)) }
 {
@@ -57,7 +57,7 @@ fn put_verdicts(out: &mut Vec<u8>, entries: u64, answers: &[u8]) -> Result<(), N
     Ok(())
 }
 
-// Puts what is told of repeats and publications.
+// Appends the lines about repeats and publications.
 fn put_publications(
     out: &mut Vec<u8>,
     repeats: u32,
@@ -74,7 +74,7 @@ fn put_publications(
     Ok(())
 }
 
-// Puts what is told of deltas.
+// Appends the lines about deltas.
 fn put_deltas(
     out: &mut Vec<u8>,
     records: usize,
@@ -90,7 +90,7 @@ fn put_deltas(
     Ok(())
 }
 
-/// The summary of a register with so many entries.
+/// The summary of a register with this many entries.
 pub fn summary_of(alloc: Global, entries: u64, told: &Told) -> Result<Bytes, NoMemory>
     ensures { IfOk result (λ text. text ≡ lines_text (verdict_lines entries told.now.answers.items
         ++ (publication_lines told.now.repeats told.now.publications told.now.published

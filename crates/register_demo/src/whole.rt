@@ -25,7 +25,7 @@ fn entries_in(mut keeper: SureKeeper) -> Result<u64, NoMemory>
     }
 }
 
-// The summary of what was told of a register, by the keeper that has its entries.
+// The summary of what the replies say about a register, with the keeper that has its entries.
 fn summary_with(
     alloc: Global,
     keeper: SureKeeper,
@@ -40,7 +40,7 @@ fn summary_with(
     Ok(text)
 }
 
-// Makes a register by an office that took nothing yet, and lets the office go.
+// Makes a register with an office that has no entries, and closes the office.
 fn demo_by<R: Threads + Sync, W: Sink>(
     rt: &R,
     alloc: Global,
@@ -59,8 +59,8 @@ fn demo_by<R: Threads + Sync, W: Sink>(
     Ok(text)
 }
 
-/// Makes a register of so many records, by an office of its own in memory, and says the summary, or that memory was
-/// wanting. Nothing is written to the sink, which is asked to report how far it is.
+/// Makes a register of this many records, with an office of its own in memory, and returns the summary. The only error
+/// is that memory runs out. Nothing is written to the sink, which only reports the progress.
 pub fn demo<R: Threads + Sync, W: Sink>(
     rt: &R,
     alloc: Global,

@@ -1,4 +1,4 @@
--- A record whose successor passes its checks leaves each successor held and each chain ending.
+-- After a record whose successors pass their checks, each successor is still held and each chain still ends.
 use Rattle.std.specs.Prelude.{◌≡◌, ◌≤◌, ℕ, zero, suc, length, slice_get, Bool, true, false, not, ◌&&◌, is_none, cond, List, [], ◌∷◌, if◌then◌else◌, Option, Some, None, IsSome, option_map, option_and_then}
 use Rattle.std.specs.List.{Contains, list_any}
 use Rattle.std.specs.Option.{option_map_or, option_to_list}
@@ -36,7 +36,7 @@ use Rattle.register_judge.specs.Fitting.{EachRecord, EachRecordOf, IfRecord, Ite
 use Rattle.register_judge.specs.Taking.{item_checks, verdict_of, verdict, writes_of, take}
 use Rattle.register_judge.proofs.TakingLemmas.{put-written, successors_pass}
 
--- ---- what the checks of one successor say of it where they pass
+-- ---- what the checks of one successor say about it if they pass
 
 held_and_ends : (found : Option RecCell) (met long : Bool)
     → first_failing (c16 found ∷ fails_if met 17 Detail.None ∷ fails_if long 18 Detail.None ∷ []) ≡ None
@@ -51,7 +51,7 @@ one_passed : (table : Table) (row : Row) (successor : List ℕ) → first_failin
 one_passed table row successor passes =
     held_and_ends (record_of table successor) (is_met (successor_of table) (lei_in row) successor) (is_long (successor_of table) successor) passes
 
--- a list of one or none is what its first member makes
+-- a list of at most one member is the list of its first member, if any
 one_or_none : (leis : List (List ℕ)) → length leis ≤ 1 → leis ≡ option_to_list (slice_get leis 0)
 one_or_none [] few = refl
 one_or_none (lei ∷ []) few = refl
@@ -79,7 +79,7 @@ one_held table row None passes next at = absurd (none_of next at)
 one_held table row (Some successor) passes next at =
     subst (λ lei. IsSome (row_at table lei)) (only_one successor next at) (row_held (row_at table successor) (one_passed table row successor passes).0)
 
--- where C16 passes each successor is held
+-- if C16 passes, each successor is held
 each_held : (table : Table) (successors : List (List ℕ)) → list_any (λ lei. is_none (record_of table lei)) successors ≡ false
     → (next : List ℕ) → Contains successors next → IsSome (row_at table next)
 each_held table [] none next at = absurd (none_of next at)
@@ -125,7 +125,7 @@ all_held rules table row fits chains passes lei other next at names =
 
 -- ---- each chain ends
 
--- a record that is put names its successors, and each other one those that it named
+-- a record that is put names its own successors, and each other record names those that it named before
 turned : (table : Table) (row : Row) → IsTurned (successors_of table) (successors_of (put table (Item.Record row))) (lei_in row) (successors_in row)
 turned table row =
     let at : (lei : List ℕ) (own : Bool) → bytes_eq lei (lei_in row) ≡ own
@@ -136,7 +136,7 @@ turned table row =
       elsewhere = λ lei differ. at lei false (false_from_ne_true _ (λ same. differ (bytes_same lei (lei_in row) same)));
     }
 
--- where each names one at most, the lists are what the first ones make
+-- if each record names at most one, the lists are those of the first ones
 named_alike : (found : Option Row) → ((row : Row) → found ≡ Some row → length (successors_in row) ≤ 1)
     → option_map_or successors_in found [] ≡ option_to_list (option_and_then successor_in found)
 named_alike None fits = refl
@@ -202,7 +202,7 @@ chains-put rules table row fits one chains passes = record {
   ends = all_end rules table row fits one chains passes;
 }
 
--- what is so of each record, and of a record that is put, is so of each then
+-- what holds for each record, and for a record that is put, then holds for each
 each-put : (P : Row → Type 0) (table : Table) (row : Row) → EachRecord P table → P row → EachRecord P (put table (Item.Record row))
 each-put P table row each own lei other at =
     let known : cond (bytes_eq lei (lei_in row)) (Some row) (row_at table lei) ≡ Some other = sym (row_at-put table row lei) ∙ at in
@@ -218,7 +218,7 @@ fits-put Rules.First table (Item.Exception item) fits one = fits
 fits-put Rules.Second table item fits one = tt
 fits-put Rules.Third table item fits one = tt
 
--- an accepted item leaves each successor held and each chain ending: a relationship and an exception leave the records
+-- after an accepted item each successor is held and each chain ends: relationships and exceptions change no records
 accepted_chains : (table : Table) (sitting : Sitting) (item : Item) → TableFits sitting.rules table → ItemFits sitting.rules (Readied.Good item)
     → SuccessorChainsEnd table → first_failing (item_checks table sitting item) ≡ None → SuccessorChainsEnd (put table item)
 accepted_chains table sitting (Item.Record row) fits one chains passes =

@@ -1,4 +1,4 @@
--- What a check that fails or passes makes of those after it.
+-- The first failing check of several, if the first of them fails or passes.
 use Rattle.std.proofs.Common.{◌≡◌, [], ◌∷◌, true, false, Some, None, refl}
 use Rattle.lei_records.specs.Checks.{Finding, first_failing}
 

@@ -1,4 +1,4 @@
--- What comes of an item over a view that knows more: the same, unless the first view lacks a cell that the item needs.
+-- The outcome of an item over a view that knows more: the same, unless the first view lacks a cell that the item needs.
 use Rattle.std.specs.Prelude.{◌≡◌, ◌<◌, ℕ, List, [], ◌∷◌, ◌++◌, map, Bool, true, false, cond, Option, Some, None, Result, Ok, Err, ⊤}
 use Rattle.std.specs.List.{Contains}
 use Rattle.std.proofs.Common.{refl, sym, ap, subst, ◌∙◌, inl, inr, arith}
@@ -129,9 +129,9 @@ module _ (a b : Cells) (row : Row) (named : (key : CellKey) → Contains (except
       less-on_seen (a.record_cell (subject_in row)) (b.record_cell (subject_in row)) own _ _
       (named own (0, omega arith, refl)) (λ held. less-unless_failed _ _ _ (less_action withdraws))
 
--- ---- what comes of an item
+-- ---- the outcome of an item
 
--- the same comes of it over the second view, unless the first one lacks a cell
+-- the outcome over the second view is the same, unless the first view lacks a cell
 abbrev pub LessJudged : Result ItemOutcome CellKey → Result ItemOutcome CellKey → Type 0
 LessJudged (Ok judged) other = other ≡ Ok judged
 LessJudged (Err key) other = ⊤
@@ -143,7 +143,7 @@ less_outcome (Checked.Missing key) b passed less = tt
 
 -- ---- a record
 
--- with the record that is held under its LEI, which the last checks ask too
+-- with the record that is held under its LEI, which the last checks need too
 less_late : (failed : Option FailedCheck) (a b : Seen RecCell) (own : CellKey) (f g : Option RecCell → Checked) (late : Option RecCell → ItemOutcome) → Less a b
     → ((held : Option RecCell) → LessChecked (f held) (g held))
     → LessJudged (outcome_by (unless_failed failed (on_seen a own f)) (late (value_seen a)))

@@ -1,4 +1,4 @@
--- Items from the first to the last, by what was judged so far.
+-- The judgement of items from the first to the last, given what was judged so far.
 use Rattle.std.specs.Prelude.{◌≡◌, ℕ, ◌+◌, List, [], ◌∷◌, ◌++◌, Bool, true, false, if◌then◌else◌, Option, Result, Ok, Err, length, ◌≤◌}
 use Rattle.std.proofs.Common.{refl, sym, ap, subst, ◌∙◌, append_assoc, append-nil, zero-add, add-zero, add-one, add_assoc, drop, get_or, ◌<◌, arith}
 use Rattle.std.proofs.Math.Seq.{drop-cons}
@@ -25,7 +25,7 @@ front verdicts writes new_records rest = record {
   new_records = new_records + rest.new_records;
 }
 
--- what was judged so far, with what comes of the items left
+-- what was judged so far, followed by the judgement of the items left
 abbrev pub with_front : List Verdict → List (RowKey × Option Item) → ℕ → Result Judgement CellKey → Result Judgement CellKey
 with_front verdicts writes new_records (Err key) = Err key
 with_front verdicts writes new_records (Ok rest) = Ok (front verdicts writes new_records rest)
@@ -46,7 +46,7 @@ moved verdicts writes n judged item (Ok rest) = λ i. Ok (record {
   new_records = sym (add_assoc n (if judged.new then 1 else 0) rest.new_records) i;
 })
 
--- what was judged with one more item, and what comes of the items left then
+-- what was judged with one more item, followed by the judgement of the items that are then left
 pub with_front-step : (cells later : Cells) (count more : ℕ) (sitting : Sitting) (verdicts verdicts' : List Verdict) (writes writes' : List (RowKey × Option Item)) (n n' : ℕ)
     (judged : ItemOutcome) (item : Readied) (items left_items : List Readied) (all : Result Judgement CellKey)
     → left_items ≡ item ∷ items
@@ -66,7 +66,7 @@ with_front-step cells later count more sitting verdicts verdicts' writes writes'
     ∙ (sym (moved verdicts writes n judged item _) ∙ (sym (ap (λ j. with_front verdicts writes n (rest j)) is)
     ∙ (sym (ap (λ xs. with_front verdicts writes n (judge_items cells count sitting xs)) cut) ∙ so_far)))
 
--- where an item stops, all do
+-- if judging stops at an item, it stops for all
 pub with_front-stop : (cells : Cells) (count : ℕ) (sitting : Sitting) (verdicts : List Verdict) (writes : List (RowKey × Option Item)) (n : ℕ)
     (stop : JudgeStop) (item : Readied) (items left_items : List Readied) (all : Result Judgement CellKey)
     → left_items ≡ item ∷ items
@@ -94,12 +94,12 @@ with_front-end cells count sitting verdicts writes n outcome left_items all none
       new_are = shows.new_are ∙ sym (add-zero n);
     })
 
--- the items left begin with the next one
+-- the items left start with the next one
 pub next_item : (items : List Readied) (i : ℕ) (item : Readied) → i < length items → item ≡ get_or items i item → drop i items ≡ item ∷ drop (i + 1) items
 next_item items i item within is =
     drop-cons items i item within ∙ (λ j. sym is j ∷ drop (sym (add-one i) j) items)
 
--- none is left behind the last one
+-- none is left after the last one
 pub nothing_left : (items : List Readied) (i : ℕ) → length items ≤ i → drop i items ≡ []
 nothing_left items i past = drop_all i items past
 

@@ -1,4 +1,4 @@
--- A cell for want of which items stop is one that the view lacks and that one of the items needs.
+-- A cell at which judging stops is one that the view lacks and that one of the items needs.
 use Rattle.std.specs.Prelude.{◌≡◌, ℕ, List, [], ◌∷◌, ◌++◌, Bool, true, false, ◌&&◌, not, cond, slice_get, Option, Some, None, Result, Ok, Err, IsTrue}
 use Rattle.std.specs.List.{Contains}
 use Rattle.std.specs.Str.{bytes_eq}
@@ -53,7 +53,7 @@ cond_lacking : {X : Type 0} (test : Bool) (put below : Seen X) → is_lacking pu
 cond_lacking true put below known lacking = cc
 cond_lacking false put below known lacking = lacking
 
--- the own one may be there or not, but no cell is missing for it
+-- an answer without the own one is lacking if and only if the answer is
 own_lacking : (own : List ℕ) (seen : Seen (List ℕ)) → is_lacking (unless_own own seen) ≡ is_lacking seen
 own_lacking own Seen.Empty = refl
 own_lacking own Seen.Missing = refl
@@ -110,9 +110,9 @@ puts_lacking : (writes : List (RowKey × Option Item)) (cells : Cells) (key : Ce
 puts_lacking [] cells key lacking = lacking
 puts_lacking (write ∷ writes) cells key lacking = put_lacking cells write key (puts_lacking writes (put_cells cells write) key lacking)
 
--- ---- what tells a missing cell
+-- ---- what reports a missing cell
 
--- a check that failed tells none
+-- a check that failed reports none
 unless_told : (failed : Option FailedCheck) (next : Checked) (key : CellKey) → unless_failed failed next ≡ Checked.Missing key → next ≡ Checked.Missing key
 unless_told None next key is = is
 unless_told (Some check) next key is = cc
@@ -121,7 +121,7 @@ never_told : (failed : Option FailedCheck) (key : CellKey) → checked_of failed
 never_told None key is = cc
 never_told (Some check) key is = cc
 
--- a cell that is looked at is told where it is missing, or what comes then tells one
+-- a cell that is read is reported if it is missing, or what follows reports one
 seen_told : {X : Type 0} (seen : Seen X) (own : CellKey) (next : Option X → Checked) (key : CellKey) (G : Type 0) → on_seen seen own next ≡ Checked.Missing key
     → (is_lacking seen ≡ true → own ≡ key → G) → ((cell : Option X) → next cell ≡ Checked.Missing key → G) → G
 seen_told (Seen.Held x) own next key G is here there = there (Some x) is
@@ -143,7 +143,7 @@ lacked own false None true key is = cc
 lacked own false None false key is = cc
 lacked own false (Some lei) long key is = (lei, refl, cc)
 
--- a record that names a successor or none isn't missing
+-- what a record names, a successor or none, isn't missing
 named_known : (successor : Option (List ℕ)) → is_missing (named successor) ≡ false
 named_known None = refl
 named_known (Some lei) = refl
@@ -223,7 +223,7 @@ module _ (cells : Cells) (item : Row) (key : CellKey) where
       (unless_told _ (check_walked 17 18 (walk cells (lei_in item) successor) (check_key cells item)) key rest)
       (of_walk_told successor names) (key_told Rules.First cells item key))
 
--- by rules that walk level by level
+-- by the rules that walk level by level
 module _ (rules : Rules) (cells : Cells) (item : Row) (key : CellKey) (by_levels : record_walk rules cells item ≡ level_walk cells (lei_in item) (successors_in item)) where
   abbrev ToldNow : Type 0
   ToldNow = Told rules cells item key
@@ -282,7 +282,7 @@ outcome_told Checked.Passes passed key is = cc
 outcome_told (Checked.Fails check) passed key is = cc
 outcome_told (Checked.Missing own) passed key is = let same : own ≡ key = cc in ap Checked.Missing same
 
--- what a relationship needs is named by it or of its walk
+-- a cell that a relationship needs is named by it or is on its walk
 relation_needs : (rules : Rules) (cells : Cells) (item : Row) (key : CellKey) → IsNeeded cells item key → Contains (needs rules cells (Readied.Good (Item.Relation item))) key
 relation_needs rules cells item key (inl named) =
     Contains-append_left (relation_names item) (cond (is_direct_parent item) (parent_walk cells (end_in item)) []) key named
@@ -356,7 +356,7 @@ rest_stops : (judged : ItemOutcome) (item : Readied) (rest : Result Judgement Ce
 rest_stops judged item (Ok rest) key is = cc
 rest_stops judged item (Err own) key is = is
 
--- by what comes of the first item
+-- given the outcome of the first item
 want_by : (cells : Cells) (count : ℕ) (sitting : Sitting) (item : Readied) (items : List Readied) (key : CellKey) (judged : Result ItemOutcome CellKey)
     → ((later : Cells) (more : ℕ) → judge_items later more sitting items ≡ Err key → Wants later more sitting items key)
     → judge_item cells (is_at_limit sitting count) sitting item ≡ judged

@@ -1,4 +1,4 @@
--- Limits that the items don't reach: each of them gives the same.
+-- Limits that the items don't exceed: each of them gives the same result.
 use Rattle.std.specs.Prelude.{◌≡◌, ◌≤◌, ◌+◌, ℕ, ℤ, List, [], ◌∷◌, Bool, true, false, ◌&&◌, if◌then◌else◌, nat_le, Option, Some, None, is_none}
 use Rattle.std.specs.Option.{option_or}
 use Rattle.std.proofs.Common.{refl, sym, ap, subst, ◌∙◌, arith}
@@ -32,7 +32,7 @@ one_if new = if new then 1 else 0
 same_room : (small big count : ℕ) → small ≤ big → count + 1 ≤ small → nat_le small count ≡ nat_le big count
 same_room small big count less fits = grind (arith, nat_tests)
 
--- C20 comes to the same after the earlier checks, where a new record fits
+-- C20 has the same result after the earlier checks, if a new record fits
 same_check : (earlier : Option FailedCheck) (held : Option RecCell) (later : List Finding) (small big count : ℕ) → small ≤ big → count + one_if (is_none held && is_none earlier) ≤ small
     → option_or earlier (first_failing (c20 held (nat_le small count) ∷ later)) ≡ option_or earlier (first_failing (c20 held (nat_le big count) ∷ later))
 same_check (Some check) held later small big count less fits = refl
@@ -40,7 +40,7 @@ same_check None (Some cell) later small big count less fits = refl
 same_check None None later small big count less fits = ap (λ full. first_failing (c20 None full ∷ later)) (same_room small big count less fits)
 
 module _ (rules : Rules) (today : ℤ) (issuer : List ℕ) where
-  -- with this limit
+  -- the sitting with this limit
   abbrev limited : ℕ → Sitting
   limited limit = sitting_by rules limit today issuer
 
@@ -55,7 +55,7 @@ module _ (rules : Rules) (today : ℤ) (issuer : List ℕ) where
       ∙ (same_check (first_failing earlier) (record_of table (lei_in item)) (event_checks rules today item) small big (record_count table) less fits
       ∙ sym (first_failing-append earlier (last_checks table (limited big) item))))
 
-  -- whether an item is a new record doesn't go by the limit
+  -- whether an item is a new record doesn't depend on the limit
   same_new : (table : Table) (small big : ℕ) (item : Readied) → is_new_record table (limited small) item ≡ is_new_record table (limited big) item
   same_new table small big (Readied.Bad check) = refl
   same_new table small big (Readied.Good (Item.Relation item)) = refl

@@ -1,4 +1,4 @@
--- Maps by LEIs and by texts after an insertion.
+-- Maps that are keyed by LEIs and by texts, after an insertion.
 use Rattle.std.specs.Prelude.{◌≡◌, ℕ, List, Bool, true, false, ◌&&◌, cond, Option, Some, None, option_and_then}
 use Rattle.std.specs.BTreeMap.{BTreeMap, IsEmpty, Updates, UpdatesBy, get}
 use Rattle.std.specs.Cmp.{tied_then}
@@ -29,7 +29,7 @@ record_at-insert old new lei own row same updates q =
     ∙ (ap (λ b. option_copied (cond b (Some row) (get (slice_cmp nat_cmp) old q))) (is_eq-slice_cmp lei q ∙ (nat_list_eq_equiv.symm lei q ∙ ap (bytes_eq q) same))
     ∙ copied (bytes_eq q own) row (get (slice_cmp nat_cmp) old q))
 
--- the ids of an authority after one was taken out or put in
+-- the ids under an authority, after those of one authority are removed or inserted
 pub ids_at-update : (old new : Takers) (authority : List ℕ) (ids : Option Ids)
     → UpdatesBy (λ x y. slice_cmp nat_cmp x.now y.now) (λ k. slice_cmp nat_cmp authority k.now) old new ids
     → (a : List ℕ) → ids_at new a ≡ cond (bytes_eq authority a) ids (ids_at old a)
@@ -43,7 +43,7 @@ id_at-update old new id lei updates i = btree_map_updates_str id old new lei upd
 pub id_at-empty : (ids : Ids) → IsEmpty ids → (i : List ℕ) → id_at ids i ≡ None
 id_at-empty ids none i = search (rules, none)
 
--- a taker after one was noted under an authority, which had ids or none
+-- the record that took a key, after one was noted under an authority that had ids or none
 pub taker_at-insert : (old new : Takers) (was : Option Ids) (more : Ids) (authority id lei : List ℕ)
     → ids_at old authority ≡ was
     → ((i : List ℕ) → id_at more i ≡ cond (bytes_eq id i) (Some lei) (option_and_then (λ ids. id_at ids i) was))
@@ -78,7 +78,7 @@ pair_at-insert old new key lei text x leis texts updates q t =
 abbrev pub between_cmp : List ℕ × Bor (List ℕ) × List ℕ → List ℕ × Bor (List ℕ) × List ℕ → Ordering
 between_cmp a b = ordering_then (ordering_then (slice_cmp nat_cmp a.0 b.0) (slice_cmp nat_cmp a.1.now b.1.now)) (slice_cmp nat_cmp a.2 b.2)
 
--- an accepted relationship after one was put
+-- the accepted relationship of a key, after one was put
 pub relation_at-insert : (old new : Relations) (key : List ℕ × Bor (List ℕ) × List ℕ) (row : Bor Row)
     → key.0 ≡ start_in row.now → key.1.now ≡ relation_type_text (kind_in row.now) → key.2 ≡ end_in row.now → Updates between_cmp old new key (Some row)
     → (start : List ℕ) (kind : RelationType) (end : List ℕ) → relation_at new start kind end ≡ cond (is_between start kind end row.now) (Some row.now) (relation_at old start kind end)

@@ -1,5 +1,5 @@
--- What is known more: if a view answers as another one wherever that one isn't missing the cell, checks that come to an
--- end over the one come to the same end over the other.
+-- Views that know more: suppose a second view answers as a first one for each cell that the first one has. Then checks
+-- that have a result over the first view have the same result over the second.
 use Rattle.std.specs.Prelude.{◌≡◌, ℕ, zero, suc, List, ◌∷◌, [], true, false, Option, Some, None, slice_get, ⊤}
 use Rattle.std.specs.List.{Contains}
 use Rattle.std.specs.Option.{option_map_or}
@@ -31,7 +31,7 @@ Less (Seen.Held x) other = other ≡ Seen.Held x
 Less Seen.Empty other = other ≡ Seen.Empty
 Less Seen.Missing other = ⊤
 
--- so is the answer of the second view for the cell of this key
+-- this holds for the answers of the two views for the cell of this key
 abbrev pub LessAt : Cells → Cells → CellKey → Type 0
 LessAt a b (CellKey.Rec lei) = Less (a.record_cell lei) (b.record_cell lei)
 LessAt a b (CellKey.Rel start kind end) = Less (a.relation start kind end) (b.relation start kind end)
@@ -58,7 +58,7 @@ less-successor (Seen.Held cell) b less =
 less-successor Seen.Empty b less = ap successor_seen less
 less-successor Seen.Missing b less = tt
 
--- one answer is that of the other, or its cell is missing
+-- the first answer names the same successors as the second, or its cell is missing
 pub nearer : (a b : Seen RecCell) → Less a b → (lacks_nexts (successors_seen a) ≡ true) ⊎ (successors_seen a ≡ successors_seen b)
 nearer (Seen.Held cell) b less = inr (ap successors_seen (sym less))
 nearer Seen.Empty b less = inr (ap successors_seen (sym less))
@@ -74,14 +74,14 @@ contained (own ∷ leis) lei at = elim (or_cases (bytes_eq lei own) (has leis le
 
 -- ---- walks
 
--- the walk over the second view becomes the same, unless the first one lacks a cell
+-- the walk over the second view has the same result, unless the first view lacks a cell
 abbrev pub LessWalked : Walked → Walked → Type 0
 LessWalked Walked.Meets other = other ≡ Walked.Meets
 LessWalked Walked.Long other = other ≡ Walked.Long
 LessWalked Walked.Ends other = other ≡ Walked.Ends
 LessWalked (Walked.Missing key) other = ⊤
 
--- two walks become the same, or the first one lacks a cell
+-- two walks have the same result, or the first one lacks a cell
 pub less-walked : (a b : Walked) → (a ≡ b) ⊎ ((key : CellKey) × (a ≡ Walked.Missing key)) → LessWalked a b
 less-walked a b (inr lacks) = let P : Walked → Type 0 = λ walked. LessWalked walked b in subst P (sym lacks.1) tt
 less-walked a b (inl same) = let P : Walked → Type 0 = λ walked. LessWalked a walked in subst P same (walked-same a)
@@ -107,16 +107,16 @@ unfolding members
 others_of n next first lei member is at =
     subst (λ named. Contains (first ∷ option_map_or (members n next) named []) member) (sym is) (Contains-append_right (first ∷ []) (members n next lei) member at)
 
--- what the views answer for the members of the walk as far as the first one knows it
+-- this holds for the answers for the members of the walk, as far as the first view knows it
 abbrev pub LessAlong : ℕ → SeenNext → SeenNext → List ℕ → Type 0
 LessAlong n a b first = (member : List ℕ) → Contains (members n (known a) first) member → Less (a member) (b member)
 
 module _ (a b : SeenNext) (key : List ℕ → CellKey) (start : List ℕ) where
-  -- the walks of so many members
+  -- the walks of up to this many members
   abbrev IsLess : ℕ → List ℕ → Type 0
   IsLess n first = LessAlong n a b first → LessWalked (walk_in n a key start first) (walk_in n b key start first)
 
-  -- by what the first view answers for the first member
+  -- given what the first view answers for the first member
   less_step : (n : ℕ) (first : List ℕ) (seen : Seen (List ℕ)) → ((second : List ℕ) → IsLess n second) → bytes_eq start first ≡ false
       → LessAlong (suc n) a b first → a first ≡ seen → LessWalked (walk_in (suc n) a key start first) (walk_in (suc n) b key start first)
   less_step n first (Seen.Held lei) rest other less is =
@@ -144,7 +144,7 @@ module _ (a b : SeenNext) (key : List ℕ → CellKey) (start : List ℕ) where
 
 -- ---- checks
 
--- the checks over the second view come to the same, unless the first one lacks a cell
+-- the checks over the second view have the same result, unless the first view lacks a cell
 abbrev pub LessChecked : Checked → Checked → Type 0
 LessChecked Checked.Passes other = other ≡ Checked.Passes
 LessChecked (Checked.Fails check) other = other ≡ Checked.Fails check

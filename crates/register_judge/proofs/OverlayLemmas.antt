@@ -1,4 +1,4 @@
--- An overlay after a record, a relationship or an exception was put.
+-- An overlay after a record, a relationship or an exception is put.
 use Rattle.std.specs.Prelude.{◌≡◌, ℕ, List, Bool, true, false, ◌&&◌, cond, Option, Some, None, is_some}
 use Rattle.std.specs.Cmp.Lexicographic.{nat_list_eq_equiv}
 use Rattle.std.specs.Str.{bytes_eq}
@@ -33,7 +33,7 @@ unfolding holds
 holds-key row key authority id live is =
     ap (λ k. is_live row && is_key authority id k) (sym is) ∙ ap (λ b. b && (bytes_eq key.0 authority && bytes_eq key.1 id)) live
 
--- noting the key of a live record is noting the key that it holds
+-- to note the key of a live record is to note the key that it holds
 pub taker_at-key : (row : Row) (key : List ℕ × List ℕ) (lei : List ℕ) (old new : Takers) → is_live row ≡ true → Some key ≡ akey row → lei ≡ lei_in row
     → ((a i : List ℕ) → taker_at new a i ≡ cond (bytes_eq key.0 a && bytes_eq key.1 i) (Some lei) (taker_at old a i))
     → (a i : List ℕ) → taker_at new a i ≡ cond (holds a i row) (Some (lei_in row)) (taker_at old a i)
@@ -52,7 +52,7 @@ module _ (below : Cells) (records later : Records) (takers newer : Takers) (rela
       ∙ elim (bytes_eq lei (lei_in row)) as (λ b. with_record (cond b (Some row) (record_at records lei)) (below.record_cell lei)
       ≡ cond b (Seen.Held (rec_cell row)) (with_record (record_at records lei) (below.record_cell lei))) [ true ↦ refl | false ↦ refl ]
 
-  -- a holder below, after one more record was replaced
+  -- a holder below, after one more record is replaced
   below_holder : (seen : Seen (List ℕ)) → unless_replaced later seen ≡ unless_own (lei_in row) (unless_replaced records seen)
   below_holder Seen.Empty = refl
   below_holder Seen.Missing = refl
@@ -71,7 +71,7 @@ module _ (below : Cells) (records later : Records) (takers newer : Takers) (rela
         ]
       ] refl
 
-  -- who took the key before, where the row does not hold it
+  -- the record that took the key before, if the row doesn't hold the key
   before : (authority id : List ℕ) → holds authority id row ≡ false → (taker : Option (List ℕ)) (seen : Seen (List ℕ))
       → with_taker later authority id taker seen ≡ unless_own (lei_in row) (with_taker records authority id taker seen)
   before authority id not_held None seen = below_holder seen
@@ -125,7 +125,7 @@ module _ (below : Cells) (records : Records) (takers : Takers) (relations later 
       ≡ cond b (Seen.Held (rel_cell row)) (with_relation (relation_at relations start kind end) (below.relation start kind end))) [ true ↦ refl | false ↦ refl ]
 
   module _ (start : List ℕ) (kind : RelationType) where
-    -- by its end, a relationship of the row's start and type, and one of others
+    -- the relationships of a start and a type, by their ends
     at_end : (end : List ℕ) → relation_at later start kind end ≡ cond (is_from start kind row && bytes_eq end (end_in row)) (Some row) (relation_at relations start kind end)
     at_end end =
         by_key start kind end
@@ -137,14 +137,14 @@ module _ (below : Cells) (records : Records) (takers : Takers) (relations later 
     along : is_from start kind row ≡ true → (end : List ℕ) → relation_at later start kind end ≡ cond (bytes_eq end (end_in row)) (Some row) (relation_at relations start kind end)
     along t end = at_end end ∙ ap (λ b. cond (b && bytes_eq end (end_in row)) (Some row) (relation_at relations start kind end)) t
 
-    -- where the row is of others, nothing changes
+    -- if the row has another start or type, nothing changes
     same_end : is_from start kind row ≡ false → (found : Option (List ℕ)) (seen : Seen (List ℕ)) → with_end later start kind found seen ≡ with_end relations start kind found seen
     same_end f None Seen.Empty = refl
     same_end f None Seen.Missing = refl
     same_end f None (Seen.Held end) = ap (λ r. cond (is_some r) Seen.Empty (Seen.Held end)) (beside f end)
     same_end f (Some end) seen = ap (λ r. cond (is_active_row r) (Seen.Held end) Seen.Empty) (beside f end)
 
-    -- where it is of them and not active, its own end is active no longer
+    -- if it has this start and type and isn't active, its own end is no longer active
     left_end : is_from start kind row ≡ true → is_active row ≡ false → (found : Option (List ℕ)) (seen : Seen (List ℕ))
         → with_end later start kind found seen ≡ unless_own (end_in row) (with_end relations start kind found seen)
     left_end t idle None Seen.Empty = refl
@@ -179,7 +179,7 @@ module _ (below : Cells) (records : Records) (takers : Takers) (relations later 
           ]
         ] refl
 
-    -- where it is active, its end is
+    -- if it is active, so is its end
     own_end : is_from start kind row ≡ true → is_active row ≡ true → (seen : Seen (List ℕ)) → with_end later start kind (Some (end_in row)) seen ≡ Seen.Held (end_in row)
     own_end t active seen =
         let here : relation_at later start kind (end_in row) ≡ Some row =
@@ -221,6 +221,6 @@ module _ (below : Cells) (records : Records) (takers : Takers) (relations : Rela
       ∙ elim (bytes_eq own lei && is_same_category category other) as (λ b. with_exception (cond b (Some stands) (stands_at standing lei other)) (below.exception lei other)
       ≡ cond b (seen_fact stands) (with_exception (stands_at standing lei other) (below.exception lei other))) [ true ↦ refl | false ↦ refl ]
 
-  -- the cells through the map with what became of an exception are the cells with that put
+  -- the cells through the map with one more exception are the cells with the exception put or withdrawn
   pub overlaid-put_exception : overlaid below records takers relations ends later ≡ put_exception (overlaid below records takers relations ends standing) own category stands
   overlaid-put_exception = λ i. record (overlaid below records takers relations ends standing) { exception = λ lei other. fact_cell lei other i }

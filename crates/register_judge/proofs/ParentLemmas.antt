@@ -1,4 +1,4 @@
--- What items leave of the chains of direct parents, and of exceptions beside them.
+-- Chains of direct parents still end after items, and no entity has both an exception and an active parent.
 use Rattle.std.specs.Prelude.{◌≡◌, List, [], ◌∷◌, Option, Some, None}
 use Rattle.std.proofs.Common.{refl}
 use Rattle.lei_records.specs.Checks.{FailedCheck}
@@ -13,9 +13,9 @@ use Rattle.register_judge.specs.declared.sitting.Sitting.{Sitting}
 use Rattle.register_judge.specs.Taking.{HaveRows, item_checks, take, verdict, verdict_of, writes_of}
 use Rattle.register_judge.proofs.TakingLemmas.{next_sound, put-written}
 
--- ---- what each accepted item leaves of a sound table, items do
+-- ---- what each accepted item keeps of a sound table, items keep
 
--- an accepted item keeps this of a sound table
+-- an accepted item keeps this property of a sound table
 abbrev Keeps : (Table → Type 0) → Type 0
 Keeps P = (table : Table) (sitting : Sitting) (item : Item) → IsSound table → P table
     → first_failing (item_checks table sitting item) ≡ None → P (put table item)
@@ -35,7 +35,7 @@ take_keeps P keeps table sitting (Readied.Good item ∷ items) sound has rows =
     take_keeps P keeps (put_all (writes_of given (Readied.Good item)) table) sitting items (next_sound table sitting item sound rows.0)
     (item_keeps P keeps table sitting item (first_failing (item_checks table sitting item)) sound has refl) rows.1
 
--- ---- parents, and exceptions beside them
+-- ---- parents, and exceptions of their categories
 
 parents_kept : Keeps ParentChainsEnd
 parents_kept table sitting (Item.Record row) sound has passes = record { ends = has.ends }

@@ -1,4 +1,4 @@
--- What was judged over a view is what is judged over each view that answers the cells which were read.
+-- The judgement over a view is the judgement over each view that gives the same answers for the cells that were read.
 use Rattle.std.specs.Prelude.{◌≡◌, ℕ, ◌+◌, ℤ, List, [], ◌∷◌, ◌++◌, Bool, true, false, ◌&&◌, not, cond, if◌then◌else◌, Option, Some, None, Result, Ok, Err, IfOk, IfSome, IsSome, IsTrue}
 use Rattle.std.specs.List.{Contains}
 use Rattle.std.specs.Str.{bytes_eq}
@@ -53,7 +53,7 @@ less_put_record a b row (CellKey.Key authority id) less =
     less_cond (holds authority id row) (Seen.Held (lei_in row)) _ _ (less-own (lei_in row) (a.holder authority id) (b.holder authority id) less)
 less_put_record a b row (CellKey.Act start kind) less = less
 
--- the end of the active relationship, where one of its start and type is put or another one
+-- the end of the active relationship, after one of its start and type is put, or another one
 less_active : (active of_them : Bool) (end : List ℕ) (a b : Seen (List ℕ)) → Less a b
     → Less (cond of_them (cond active (Seen.Held end) (unless_own end a)) a) (cond of_them (cond active (Seen.Held end) (unless_own end b)) b)
 less_active active false end a b less = less
@@ -103,7 +103,7 @@ lacking_at a b (CellKey.Exc lei category) lacking = less_lacking (a.exception le
 lacking_at a b (CellKey.Key authority id) lacking = less_lacking (a.holder authority id) (b.holder authority id) lacking
 lacking_at a b (CellKey.Act start kind) lacking = less_lacking (a.active start kind) (b.active start kind) lacking
 
--- both answers are the one that was read
+-- if both answers are the one that was read, the second is the first
 less_alike : {X : Type 0} (a b read : Seen X) → a ≡ read → b ≡ read → Less a b
 less_alike {X} a b read a_is b_is =
     let P : Seen X → Type 0 = λ seen. Less seen b in
@@ -121,7 +121,7 @@ less_covered : (reads : Listed) (a b : Cells) (key : CellKey) → AnswersReads r
 less_covered reads a b key in_a in_b (inl lacking) = lacking_at a b key lacking
 less_covered reads a b key in_a in_b (inr listed) = alike_at a b key listed.0 (in_a key listed.0 listed.1) (in_b key listed.0 listed.1)
 
--- an item whose needs are covered comes to the same over each view that answers the reads
+-- an item whose needs are covered has the same outcome over each view that answers the reads
 item_by_reads : (reads : Listed) (view cells : Cells) (writes : List (RowKey × Option Item)) (full : Bool) (sitting : Sitting) (item : Readied) (judged : ItemOutcome)
     → ((key : CellKey) → Contains (needs sitting.rules (put_writes writes view) item) key → IsCovered reads view key)
     → AnswersReads reads view → AnswersReads reads cells → judge_item (put_writes writes view) full sitting item ≡ Ok judged
@@ -131,14 +131,14 @@ item_by_reads reads view cells writes full sitting item judged covers in_view in
     subst P is (less-item (put_writes writes view) (put_writes writes cells) full sitting item (λ key at.
     less_puts writes view cells key (less_covered reads view cells key in_view in_cells (covers key at))))
 
--- ---- what was judged so far, with the reads or without
+-- ---- what was judged so far, with or without the reads
 
--- the view answers what was noted, if anything is noted; and else it is the one that is judged
+-- the view answers what was noted, if cells are noted; or else it is the view that items are judged over
 abbrev pub Admits : Option Listed → Cells → Cells → Type 0
 Admits None view cells = cells ≡ view
 Admits (Some reads) view cells = AnswersReads reads cells
 
--- what was judged so far, with what comes of the items left, is what comes of all, over each view that is admitted
+-- what was judged so far, followed by the judgement of the items left, is the judgement of all, over each admitted view
 abbrev pub IsSoFar : Option Listed → Cells → Sitting → ℕ → List Verdict → List (RowKey × Option Item) → ℕ → List Readied → List Readied → Type 0
 IsSoFar noted view sitting count verdicts writes n left_items items =
     (cells : Cells) → Admits noted view cells
@@ -171,7 +171,7 @@ admits-more None (Some new) view keys notes admitted = absurd notes
 admits-more (Some old) None view keys notes admitted = absurd notes
 admits-more (Some old) (Some new) view keys notes admitted = notes.answers admitted
 
--- what answers the reads now answered those before
+-- a view that answers the reads now answered those before
 admits_before : (old new : Option Listed) (view cells : Cells) (keys : List CellKey) → NotesMore old new view keys → Admits new view cells → Admits old view cells
 admits_before None None view cells keys notes admitted = admitted
 admits_before None (Some new) view cells keys notes admitted = absurd notes
@@ -207,13 +207,13 @@ so_far-step old new view sitting count more verdicts verdicts' writes writes' n 
     (ap (λ w. put_writes w cells) writes_are ∙ put_writes-append writes (writes_of judged.verdict item) cells)
     more_is verdicts_are writes_are n_is (so_far cells (admits_before old new view cells keys notes of_cells))
 
--- where cells are listed, they still are
+-- if cells were listed, they still are
 pub listed-more : (old new : Option Listed) (view : Cells) (keys : List CellKey) → NotesMore old new view keys → IsSome old → IsSome new
 listed-more None new view keys notes some = cc
 listed-more (Some old) None view keys notes some = absurd notes
 listed-more (Some old) (Some new) view keys notes some = refl
 
--- at the end the outcome goes by what was read
+-- at the end the outcome depends only on what was read
 pub by_reads-end : (noted : Option Listed) (view : Cells) (sitting : Sitting) (count : ℕ) (verdicts : List Verdict) (writes : List (RowKey × Option Item)) (n : ℕ)
     (outcome : Outcome) (left_items items : List Readied)
     → IsSome noted → left_items ≡ [] → Shows outcome verdicts writes n → IfSome noted (λ reads. outcome.reads ≡ reads) → Admits noted view view
@@ -225,14 +225,14 @@ by_reads-end (Some reads) view sitting count verdicts writes n outcome left_item
       (so_far cells (subst (λ r. AnswersReads r cells) is answers));
 }
 
--- ---- what a judging answers
+-- ---- what judging returns
 
 pub read-by : (result : Result Outcome JudgeStop) (view : Cells) (sitting : Sitting) (items : List Readied)
     → IfOk result (λ outcome. IsByReads outcome view sitting items) → IfOk result (λ outcome. AnswersReads outcome.reads view)
 read-by (Ok outcome) view sitting items by_reads = by_reads.read
 read-by (Err stop) view sitting items by_reads = tt
 
--- an outcome by its reads is that of each sound table that agrees with them
+-- an outcome that depends only on its reads is that of each sound table that agrees with them
 pub agreed-by : (result : Result Outcome JudgeStop) (view : Cells) (room : ℕ) (today : ℤ) (issuer : List ℕ) (items : List Readied)
     → IfOk result (λ outcome. IsByReads outcome view (sitting_by newest room today issuer) items)
     → IfOk result (λ outcome. IsAgreed outcome room today issuer items)
@@ -241,7 +241,7 @@ agreed-by (Ok outcome) view room today issuer items by_reads = λ table sound ag
     (judged-taken table (sitting_by newest room today issuer) items sound) (by_reads.alike (cells_of table) agrees)
 agreed-by (Err stop) view room today issuer items by_reads = tt
 
--- the cell for want of which it stopped is the one that items lack
+-- the cell at which judging stopped is the one that the judgement lacks
 pub stopped-by : (result : Result Outcome JudgeStop) (judged : Result Judgement CellKey) (key : CellKey) → Judges result judged
     → result ≡ Err (JudgeStop.NeedCell key) → judged ≡ Err key
 stopped-by result judged key judges is = let P : Result Outcome JudgeStop → Type 0 = λ r. Judges r judged in subst P is judges

@@ -1,5 +1,5 @@
--- What a relationship and an exception do to the cells of a table. Of the table this asks that its rows stand under their
--- own keys and that no two active relationships have one start and type, and not that its rows are those of items.
+-- What a relationship and an exception do to the cells of a table. The table's rows must be under their own keys, and
+-- no two active relationships may have the same start and type. Its rows needn't be those of items.
 use Rattle.std.specs.Prelude.{◌≡◌, ℕ, List, Bool, true, false, not, ◌&&◌, cond, Option, Some, None, is_some, option_map}
 use Rattle.std.specs.FinMap.{get-insert, get-remove}
 use Rattle.std.specs.Str.{bytes_eq}
@@ -37,7 +37,7 @@ relation_cell table row start kind end =
     ∙ (ap (λ b. seen (option_map rel_cell (cond b (Some row) (relation_row table start kind end)))) (tied-relation_key start kind end row)
     ∙ seen_row (is_between start kind end row) row (relation_row table start kind end))
 
--- the row's end where it is active of the start and the type, and else what is left of what was held
+-- the row's end if the row is active and has the start and the type, or else what is left of what was held
 seen_active : (active of_them : Bool) (end : List ℕ) (held : Option (List ℕ))
     → seen (cond (active && of_them) (Some end) (cond of_them (other_than end held) held))
     ≡ cond of_them (cond active (Seen.Held end) (unless_own end (seen held))) (seen held)
@@ -59,7 +59,7 @@ active_cell table row start kind keyed actives fits =
     ∙ (ap (λ b. seen (cond b (Some (end_in row)) (cond (is_from start kind row) (other_than (end_in row) held) held))) (active_by start kind row)
     ∙ seen_active (is_active row) (is_from start kind row) (end_in row) held)
 
--- putting a fitting relationship into a table puts it over the table's cells
+-- to put a fitting relationship into a table is to put it over the table's cells
 pub cells-put_relation : (table : Table) (row : Row) → AreRelationsKeyed table → HasActives table → IsFitting table row
     → put_relation (cells_of table) row ≡ cells_of (put table (Item.Relation row))
 cells-put_relation table row keyed actives fits = λ i. record (cells_of table) {
@@ -89,7 +89,7 @@ exception_cell table row true lei category =
     ap (λ r. seen_fact (is_some r)) (get-remove keys_total table.exceptions (exception_key_in row) (exception_key lei category))
     ∙ (ap (λ b. seen_fact (is_some (cond b None held))) (tied-exception_key lei category row) ∙ seen_gone _ held)
 
--- putting an exception into a table, or taking it out, does so over the table's cells
+-- to put an exception into a table, or to withdraw it, is to do so over the table's cells
 pub cells-put_exception : (table : Table) (row : Row) (withdraws : Bool)
     → put_exception (cells_of table) (subject_in row) (exception_category_in row) (not withdraws) ≡ cells_of (put table (Item.Exception (row, withdraws)))
 cells-put_exception table row true = λ i. record (cells_of table) { exception = λ lei category. sym (exception_cell table row true lei category) i }

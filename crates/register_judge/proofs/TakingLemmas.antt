@@ -1,4 +1,4 @@
--- What a view answers over the cells of a sound table is what the items do to that table.
+-- The judgement of items over the cells of a sound table is what the items do to that table.
 use Rattle.std.specs.Prelude.{◌≡◌, ℕ, ◌+◌, ◌==◌, length, List, [], ◌∷◌, ◌++◌, Bool, true, false, not, ◌&&◌, ◌||◌, cond, if◌then◌else◌, nat_le, Option, Some, None, is_some, is_none, option_map, Result, Ok, Err}
 use Rattle.std.specs.FinMap.{len-insert}
 use Rattle.std.specs.List.{list_any}
@@ -54,7 +54,7 @@ use Rattle.register_judge.proofs.RelationLemmas.{cells-put_exception, cells-put_
 
 -- ---- a record on a table, by the table's cells
 
--- C19 is asked of a live record alone
+-- C19 is made only for a live record
 key_by_table : (table : Table) (item : Row) → IsKeyed table → AuthorityKeysAreUnique table
     → check_key (cells_of table) item ≡ checked_of (first_failing (c19 (other_holder table item) item ∷ []))
 key_by_table table item keyed holders =
@@ -67,7 +67,7 @@ key_by_table table item keyed holders =
           sym (ap (λ live. checked_of (cond (live && is_some other) (Some (record { number = 19; detail = code_detail other })) None)) dead)
     ] refl
 
--- C16 to C18 are asked one after the other, and then those behind
+-- C16 to C18 are made one after another, and then those after them
 in_turn : (found : Option RecCell) (met long : Bool) (behind : List Finding)
     → unless_failed (first_failing (c16 found ∷ []))
     (check_walked 17 18 (if met then Walked.Meets else if long then Walked.Long else Walked.Ends) (checked_of (first_failing behind)))
@@ -89,7 +89,7 @@ first_by_table table item (Some successor) keyed holders =
     ∙ ((λ i. unless_failed (first_failing (c16 found ∷ [])) (check_walked 17 18 (walks i) (behind i)))
     ∙ in_turn found (is_met (successor_of table) (lei_in item) successor) (is_long (successor_of table) successor) (c19 (other_holder table item) item ∷ []))
 
--- each successor is looked for, and then comes what follows
+-- each successor is looked up, and then `next` follows
 each_by_table : (table : Table) (successors : List (List ℕ)) (next : Checked)
     → check_each (cells_of table) successors next ≡ unless_failed (first_failing (c16_each table successors ∷ [])) next
 each_by_table table [] next = refl
@@ -106,7 +106,7 @@ each_by_table table (successor ∷ successors) next =
     one_or_more (Some cell) true next = refl
     one_or_more (Some cell) false next = refl
 
--- C16 to C18 by the later rules are asked one after the other, and then those behind
+-- C16 to C18 by the later rules are made one after another, and then those after them
 by_levels_in_turn : (none wide back : Bool) (behind : List Finding)
     → unless_failed (first_failing (fails_if none 16 Detail.None ∷ []))
     (check_walked 17 18 (if wide then Walked.Long else if back then Walked.Meets else Walked.Ends) (checked_of (first_failing behind)))
@@ -116,7 +116,7 @@ by_levels_in_turn false true back behind = refl
 by_levels_in_turn false false true behind = refl
 by_levels_in_turn false false false behind = refl
 
--- what the later rules ask of an item with successors
+-- the checks of an item with successors by the later rules
 pub levels_of : (cells : Cells) (item : Row) (successors : List (List ℕ)) → (length successors == 0) ≡ false
     → check_levels cells item successors ≡ check_each cells successors (check_walked 17 18 (spread cells (lei_in item) successors) (check_key cells item))
 levels_of cells item [] some = cc
@@ -143,7 +143,7 @@ successors_by_table Rules.First table item = first_by_table table item (successo
 successors_by_table Rules.Second table item = levels_by_table table item (successors_in item)
 successors_by_table Rules.Third table item = levels_by_table table item (successors_in item)
 
--- the cells of a table come to the first check before C20 that fails on it
+-- over the cells of a table, the result is the first check before C20 that fails on the table
 record_by_cells : (table : Table) (sitting : Sitting) (item : Row) → IsKeyed table → AuthorityKeysAreUnique table
     → check_record (cells_of table) sitting item ≡ checked_of (first_failing (earlier_checks table sitting item))
 unfolding check_record
@@ -157,18 +157,18 @@ record_by_cells table sitting item keyed holders =
     ∙ (ap (unless_failed (first_failing of_held)) (successors_by_table sitting.rules table item keyed holders) ∙ chained of_held behind))
     ∙ chained own (of_held ++ behind)
 
--- What comes of an item on a table, in a sitting.
+-- The outcome of an item on a table, in a sitting.
 abbrev pub outcome_on : Table → Sitting → Readied → ItemOutcome
 outcome_on table sitting item = record { verdict = verdict table sitting item; new = is_new_record table sitting item }
 
--- The limit of a sitting over a view counts the records that are added, and so many were added. The limit over the table
--- counts those that were there before, too.
+-- The limit of a sitting over a view is on the records that are added, and `count` were added. The limit over the table
+-- is also on the `base` records that were there before.
 record IsCounted (table : Table) (sitting : Sitting) (limit count : ℕ) : Type 0 where
   base : ℕ
   limit_is : limit ≡ base + sitting.limit
   count_is : record_count table ≡ base + count
 
--- as many were added as the limit exactly where the table is full
+-- the records that were added reach their limit if and only if the table is full
 same_limit : (base own count limit all : ℕ) → limit ≡ base + own → all ≡ base + count → nat_le own count ≡ nat_le limit all
 same_limit base own count limit all limit_is all_is = grind (arith, nat_tests)
 
@@ -181,7 +181,7 @@ held_seen : {X : Type 0} (found : Option X) → value_seen (seen found) ≡ foun
 held_seen None = refl
 held_seen (Some x) = refl
 
--- a record that passes the checks before C20 is asked it
+-- C20 is made for a record that passes the checks before it
 with_room : (earlier room : Option FailedCheck) (none : Bool)
     → outcome_by (checked_of earlier) (record { verdict = verdict_of room; new = none })
     ≡ Ok (record { verdict = verdict_of (option_or earlier room); new = none && is_none earlier })
@@ -208,8 +208,8 @@ by_checks : (failed : Option FailedCheck) → outcome_by (checked_of failed) acc
 by_checks None = refl
 by_checks (Some check) = refl
 
--- What is asked of a table so that its cells tell each check: its rows stand under their own keys, and no two live records
--- have one authority key, nor two active relationships one start and type.
+-- What a table needs so that its cells give the result of each check: its rows are under their own keys, no two live
+-- records have the same authority key, and no two active relationships have the same start and type.
 pub record CellsTell (table : Table) : Type 0 where
   pub keyed : IsKeyed table
   pub holders : AuthorityKeysAreUnique table
@@ -241,7 +241,7 @@ cells_put table item keyed holders free = λ i. record (cells_of table) {
       ∙ ap (cond (holds authority id item) (Seen.Held (lei_in item))) (seen_other (lei_in item) (holder_of table authority id)))) i;
 }
 
--- ---- what an accepted record says of the table
+-- ---- what an accepted record says about the table
 
 or_none : {X : Type 0} (a b : Option X) → option_or a b ≡ None → (a ≡ None) × (b ≡ None)
 or_none None b e = (refl, e)
@@ -256,7 +256,7 @@ passed : (table : Table) (sitting : Sitting) (item : Row) → Passes table sitti
 passed table sitting item passes =
     or_none _ _ (sym (first_failing-append (earlier_checks table sitting item) (last_checks table sitting item)) ∙ passes)
 
--- the checks of the successor pass, and C19
+-- the checks of the successors pass, and so does C19
 before_c20 : (table : Table) (sitting : Sitting) (item : Row) → Passes table sitting item
     → (first_failing (successor_checks sitting.rules table item) ≡ None) × (first_failing (c19 (other_holder table item) item ∷ []) ≡ None)
 before_c20 table sitting item passes =
@@ -275,8 +275,8 @@ successors_pass table sitting item passes = (before_c20 table sitting item passe
 
 -- ---- the table and the number of its records after an item
 
--- after these writes the table's cells tell each check, they are the cells with the writes put, and the table has so many
--- records more
+-- after these writes the table's cells are the cells with the writes put, and give the result of each check. The table
+-- has this many more records
 pub record After (table : Table) (writes : List (RowKey × Option Item)) (added : ℕ) : Type 0 where
   pub told : CellsTell (put_all writes table)
   pub cells : put_writes writes (cells_of table) ≡ cells_of (put_all writes table)
@@ -288,7 +288,7 @@ after_none table told = record { told = told; cells = refl; count = sym (add-zer
 count_put : (table : Table) (item : Row) → record_count (put table (Item.Record item)) ≡ cond (is_some (row_at table (lei_in item))) (record_count table) (record_count table + 1)
 count_put table item = len-insert keys_total table.records (record_key (lei_in item)) item
 
--- an accepted record adds one exactly where it is new
+-- an accepted record adds one if and only if it is new
 count_added : (held : Option Row) (count : ℕ) → cond (is_some held) count (count + 1) ≡ count + records_added Verdict.Accepted (is_none (option_map rec_cell held))
 count_added None count = refl
 count_added (Some row) count = sym (add-zero count)
@@ -313,7 +313,7 @@ after_record table sitting item told passes =
           ∙ ap (λ n. record_count table + records_added Verdict.Accepted n) (sym new));
     }
 
--- an accepted relationship has no other active one in its way
+-- an accepted relationship passes C37: no other active one prevents it
 pub passed_37 : (table : Table) (issuer : List ℕ) (row : Row) → first_failing (relation_checks table issuer row) ≡ None → (c37 (other_end table row) row).fails ≡ false
 passed_37 table issuer row passes = (all_pass (relation_checks table issuer row) passes).others.others.others.others.others.others.others.first
 
@@ -367,7 +367,7 @@ counted_after base count all added next all_is next_is = omega arith
 abbrev pub shown : Taken → Judgement
 shown taken = record { verdicts = taken.verdicts; writes = taken.writes; new_records = taken.new_records }
 
--- over the cells of a table what is judged is what the items do to the table
+-- the judgement over the cells of a table is what the items do to the table
 told-taken : (table : Table) (sitting : Sitting) (limit count : ℕ) (items : List Readied) → CellsTell table → IsCounted table sitting limit count
     → judge_items (cells_of table) count sitting items ≡ Ok (shown (take table (over_table sitting limit) items))
 unfolding judge_items
@@ -396,13 +396,13 @@ judged-taken table sitting items sound =
     told-taken table sitting (record_count table + sitting.limit) 0 items (cells-tell table sound)
     (record { base = record_count table; limit_is = refl; count_is = sym (add-zero (record_count table)) })
 
--- ---- the table behind the items
+-- ---- the table after the items
 
 put_all-append : (first second : List (RowKey × Option Item)) (table : Table) → put_all (first ++ second) table ≡ put_all second (put_all first table)
 put_all-append [] second table = refl
 put_all-append (write ∷ writes) second table = put_all-append writes second (put_write table write)
 
--- the table behind the items is the table with what they wrote
+-- the table after the items is the table with their writes put
 pub take-written : (table : Table) (sitting : Sitting) (items : List Readied)
     → (take table sitting items).table ≡ put_all (take table sitting items).writes table
 take-written table sitting [] = refl
@@ -418,7 +418,7 @@ accepted_sound table sitting (Item.Record row) sound is_row passes = IsSound-put
 accepted_sound table sitting (Item.Relation row) sound is_row passes = IsSound-put_relation table row sound is_row (passed_37 table sitting.issuer row passes)
 accepted_sound table sitting (Item.Exception item) sound is_row passes = IsSound-put_exception table item.0 item.1 sound is_row
 
--- what an item writes is that it is put
+-- what an accepted item writes has the same effect as putting it
 pub put-written : (P : Table → Type 0) (table : Table) (item : Item) → P (put table item) → P (put_write table (row_key item, written item))
 put-written P table (Item.Record row) is = is
 put-written P table (Item.Relation row) is = is
@@ -431,7 +431,7 @@ item_sound : (table : Table) (sitting : Sitting) (item : Item) (failed : Option 
 item_sound table sitting item (Some check) sound is_row is = sound
 item_sound table sitting item None sound is_row is = put-written IsSound table item (accepted_sound table sitting item sound is_row is)
 
--- the table behind the first of some items, with the rows of those behind it
+-- the table after the first of some items is sound
 pub next_sound : (table : Table) (sitting : Sitting) (item : Item) → IsSound table → HasRow item
     → IsSound (put_all (writes_of (verdict table sitting (Readied.Good item)) (Readied.Good item)) table)
 next_sound table sitting item sound is_row =
@@ -446,7 +446,7 @@ take-sound table sitting (Readied.Good item ∷ items) sound rows =
     let given = verdict table sitting (Readied.Good item) in
     take-sound (put_all (writes_of given (Readied.Good item)) table) sitting items (next_sound table sitting item sound rows.0) rows.1
 
--- what is judged of a table is taken, and no cell is wanted
+-- the judgement over a table's cells is the result of taking the items, and no cell is lacking
 pub judges-takes : (result : Result Outcome JudgeStop) (judged : Result Judgement CellKey) (taken : Taken) → judged ≡ Ok (shown taken) → Judges result judged → Takes result taken
 judges-takes (Ok outcome) judged taken is judges = let P : Result Judgement CellKey → Type 0 = λ r. Judges (Ok outcome) r in subst P is judges
 judges-takes (Err (JudgeStop.NeedCell key)) judged taken is stops = let clash : Ok (shown taken) ≡ Err key = sym is ∙ stops in cc

@@ -1,4 +1,4 @@
--- Judging over any view: what a view's cells make of items, or the first cell that they need and the view lacks.
+-- Judging over any view: the judgement of items by a view's cells, or the first cell that they need and the view lacks.
 use Rattle.std.specs.Prelude.{ℕ, ◌+◌, List, [], ◌∷◌, ◌++◌, Bool, true, false, if◌then◌else◌, Option, Some, None, is_none, Result, Ok, Err}
 use Rattle.lei_code.specs.Texts.{Lei, Text}
 use Rattle.lei_records.specs.declared.item.Item.{Item}
@@ -25,12 +25,12 @@ use Rattle.register_judge.specs.Taking.{verdict_of, writes_of}
 
 -- ---- a record, from C05 to C19
 
--- The cell of an authority key. A record without a key doesn't ask for one.
+-- The cell of an authority key. For a record without a key no cell is looked up.
 abbrev pub key_cell : Option (Text × Text) → CellKey
 key_cell None = CellKey.Key [] []
 key_cell (Some key) = CellKey.Key key.0 key.1
 
--- C19: a record that isn't live doesn't ask for its key.
+-- C19. The key of a record that isn't live isn't looked up.
 abbrev pub check_key : Cells → Row → Checked
 check_key cells item =
     if is_live item
@@ -44,27 +44,27 @@ check_named cells item successor found =
     unless_failed (first_failing (c16 found ∷ []))
     (check_walked 17 18 (walk cells (lei_in item) successor) (check_key cells item))
 
--- The same by the first rules and the one successor: an item without one has nothing to ask of it.
+-- C16 to C19 by the first rules, with the one successor. An item without a successor has only C19.
 abbrev pub check_first : Cells → Row → Option Lei → Checked
 check_first cells item None = check_key cells item
 check_first cells item (Some successor) =
     on_seen (cells.record_cell successor) (CellKey.Rec successor) (check_named cells item successor)
 
--- C16 of successors one after the other, and what comes then where all of them are held.
+-- C16 of successors, one after another, and then `next` if all of them are held.
 abbrev pub check_each : Cells → List Lei → Checked → Checked
 check_each cells [] next = next
 check_each cells (successor ∷ successors) next =
     on_seen (cells.record_cell successor) (CellKey.Rec successor)
     (λ found. unless_failed (first_failing (c16 found ∷ [])) (check_each cells successors next))
 
--- C16 to C19 by the later rules and all successors: an item without one has nothing to ask of it.
+-- C16 to C19 by the later rules, with all successors. An item without successors has only C19.
 abbrev pub check_levels : Cells → Row → List Lei → Checked
 check_levels cells item [] = check_key cells item
 check_levels cells item (successor ∷ successors) =
     check_each cells (successor ∷ successors)
     (check_walked 17 18 (spread cells (lei_in item) (successor ∷ successors)) (check_key cells item))
 
--- The same by the rules.
+-- C16 to C19 by the given rules.
 abbrev pub check_successors : Rules → Cells → Row → Checked
 check_successors Rules.First cells item = check_first cells item (successor_in item)
 check_successors Rules.Second cells item = check_levels cells item (successors_in item)
@@ -76,7 +76,7 @@ check_with_held cells sitting item held =
     unless_failed (first_failing (held_checks held sitting item))
     (check_successors sitting.rules cells item)
 
--- What the checks C05 to C19 of a record come to over a view, in a sitting.
+-- The result of the checks C05 to C19 of a record over a view, in a sitting.
 unfoldable pub check_record : Cells → Sitting → Row → Checked
 check_record cells sitting item =
     unless_failed (first_failing (own_checks sitting item))
@@ -85,38 +85,39 @@ check_record cells sitting item =
 
 -- ---- an item
 
--- An item is rejected by a check.
+-- The outcome of an item that a check rejects.
 abbrev pub rejection : FailedCheck → ItemOutcome
 rejection check = record { verdict = Verdict.Rejected check; new = false }
 
--- An item that takes up no room is accepted.
+-- The outcome of an accepted item that takes up no room.
 abbrev pub acceptance : ItemOutcome
 acceptance = record { verdict = Verdict.Accepted; new = false }
 
--- A record came to C20: that or a later check fails, or none does, and the record is new where none is held.
+-- The outcome of a record that reached C20: this or a later check fails, or none does. The record is new if none is
+-- held under its LEI.
 abbrev pub judge_late : Sitting → Row → Option RecCell → Bool → ItemOutcome
 judge_late sitting item held full = record
     { verdict = verdict_of (first_failing (late_checks sitting item held full)); new = is_none held }
 
--- What comes of an item by what its checks come to, and by what comes of it where they pass.
+-- The outcome of an item, given the result of its checks. `passed` is its outcome if they pass.
 abbrev pub outcome_by : Checked → ItemOutcome → Result ItemOutcome CellKey
 outcome_by Checked.Passes passed = Ok passed
 outcome_by (Checked.Fails check) passed = Ok (rejection check)
 outcome_by (Checked.Missing key) passed = Err key
 
--- What a cell has as far as the view knows.
+-- What a cell has, as far as the view knows.
 abbrev pub value_seen : {X : Type 0} → Seen X → Option X
 value_seen (Seen.Held x) = Some x
 value_seen Seen.Empty = None
 value_seen Seen.Missing = None
 
--- What comes of a record: from C20 on the checks are asked last, with the record that is held under its LEI.
+-- The outcome of a record. The checks from C20 on come last, with the record that is held under its LEI.
 abbrev pub judge_record : Cells → Bool → Sitting → Row → Result ItemOutcome CellKey
 judge_record cells full sitting item =
     outcome_by (check_record cells sitting item)
     (judge_late sitting item (value_seen (cells.record_cell (lei_in item))) full)
 
--- What comes of an item in a sitting, where a further record fits or not.
+-- The outcome of an item in a sitting. If `full` is true, no further record fits.
 abbrev pub judge_item : Cells → Bool → Sitting → Readied → Result ItemOutcome CellKey
 judge_item cells full sitting (Readied.Bad check) = Ok (rejection check)
 judge_item cells full sitting (Readied.Good (Item.Record item)) = judge_record cells full sitting item
@@ -132,28 +133,28 @@ abbrev pub put_writes : List (RowKey × Option Item) → Cells → Cells
 put_writes [] cells = cells
 put_writes (write ∷ writes) cells = put_writes writes (put_cells cells write)
 
--- The cells after an item, by what came of it.
+-- The cells after an item, given its outcome.
 abbrev pub cells_after : Result ItemOutcome CellKey → Readied → Cells → Cells
 cells_after (Err key) item cells = cells
 cells_after (Ok judged) item cells = put_writes (writes_of judged.verdict item) cells
 
--- How many records an item adds: one where it is accepted and new.
+-- The number of records that an item adds: one if it is accepted and new.
 abbrev pub records_added : Verdict → Bool → ℕ
 records_added Verdict.Accepted true = 1
 records_added verdict new = 0
 
--- How many records there are after an item, by what came of it.
+-- The number of records after an item, given its outcome.
 abbrev pub count_after : Result ItemOutcome CellKey → ℕ → ℕ
 count_after (Err key) count = count
 count_after (Ok judged) count = count + records_added judged.verdict judged.new
 
--- A judgement: verdicts, writes, and how many items were new.
+-- A judgement: verdicts, writes, and the number of new records.
 pub record Judgement : Type 0 where
   pub verdicts : List Verdict
   pub writes : List (RowKey × Option Item)
   pub new_records : ℕ
 
--- The judgement of one item in front of those behind it.
+-- The judgement of one item, followed by that of the items after it.
 abbrev pub item_in_front : ItemOutcome → Readied → Judgement → Judgement
 item_in_front judged item rest = record {
   verdicts = judged.verdict ∷ rest.verdicts;
@@ -161,14 +162,15 @@ item_in_front judged item rest = record {
   new_records = (if judged.new then 1 else 0) + rest.new_records;
 }
 
--- The same where a cell may be lacking: then the first such cell is what comes of all.
+-- The same if the view may lack cells: then the first such cell is the result for all items.
 abbrev pub before : Result ItemOutcome CellKey → Readied → Result Judgement CellKey → Result Judgement CellKey
 before (Err key) item rest = Err key
 before (Ok judged) item (Err key) = Err key
 before (Ok judged) item (Ok rest) = Ok (item_in_front judged item rest)
 
--- What comes of items from the first to the last in a sitting, each judged on the cells with the accepted ones before
--- it put. The limit is asked of a count of records, which begins with this one and grows by each record that is added.
+-- The judgement of items in a sitting, from the first to the last. Each is judged on the cells after the accepted ones
+-- before it are put. The limit is on a count of records that starts at `count` and grows with each record that is
+-- added.
 unfoldable pub judge_items : Cells → ℕ → Sitting → List Readied → Result Judgement CellKey
 judge_items cells count sitting [] = Ok (record { verdicts = []; writes = []; new_records = 0 })
 judge_items cells count sitting (item ∷ items) =

@@ -26,8 +26,8 @@ use Rattle.register_judge.specs.declared.overlay.Overlay.{Overlay}
 
 -- ---- the cells after one write
 
--- The cells after a record was put: its own cell is the record's, a key that it holds is its own, and nobody holds a
--- key any longer that only it held.
+-- The cells after a record is put. Its own cell has the record, and a key that it holds has its LEI. A key that it held
+-- before and no longer holds has no holder.
 abbrev pub put_record : Cells → Row → Cells
 put_record cells row = record cells {
   record_cell = λ lei. if bytes_eq lei (lei_in row) then Seen.Held (rec_cell row) else cells.record_cell lei;
@@ -40,13 +40,13 @@ put_record cells row = record cells {
 abbrev pub is_between : Lei → RelationType → Lei → Row → Bool
 is_between start kind end row = is_from start kind row && bytes_eq (end_in row) end
 
--- The end of the active relationship of its start and type, where the relationship is put: its own where it is active,
--- and else what was held, but for its own.
+-- The end of the active relationship of its start and type, after the relationship is put: its own end if it is active.
+-- If it isn't, the end is the one that was held, unless that is its own.
 abbrev pub with_active : Row → Seen Lei → Seen Lei
 with_active row held = if is_active row then Seen.Held (end_in row) else unless_own (end_in row) held
 
--- The cells after a relationship was put: its own cell is the relationship's, and so is that of its start and type
--- where it is active. Where it isn't, nothing is active there any longer of which it takes the place.
+-- The cells after a relationship is put. Its own cell has the relationship. If it is active, the cell of its start and
+-- type has its end. If it isn't, an active relationship that it replaces is no longer in that cell.
 abbrev pub put_relation : Cells → Row → Cells
 put_relation cells row = record cells {
   relation = λ start kind end.
@@ -55,7 +55,7 @@ put_relation cells row = record cells {
       if is_from start kind row then with_active row (cells.active start kind) else cells.active start kind;
 }
 
--- The cells after the exception of this LEI and category was put, or withdrawn: its own cell says whether it stands.
+-- The cells after the exception of this LEI and category is put or withdrawn: its own cell says whether it is held.
 abbrev pub put_exception : Cells → Lei → ExceptionCategory → Bool → Cells
 put_exception cells lei category stands = record cells {
   exception = λ own other.
@@ -82,11 +82,11 @@ Records = BTreeMap Lei (Bor Row)
 abbrev pub record_at : Records → Lei → Option Row
 record_at records lei = option_copied (get_by (slice_cmp nat_cmp lei) records)
 
--- By the id of an authority, the LEI of a record.
+-- The LEI of a record, by the id under one authority.
 abbrev pub Ids : Type 0
 Ids = BTreeMap (Bor Text) Lei
 
--- The ids of each authority.
+-- The ids under each authority.
 abbrev pub Takers : Type 0
 Takers = BTreeMap (Bor Text) Ids
 
@@ -94,7 +94,7 @@ Takers = BTreeMap (Bor Text) Ids
 abbrev pub id_at : Ids → Text → Option Lei
 id_at ids id = get_by (λ k. slice_cmp nat_cmp id k.now) ids
 
--- The ids of an authority.
+-- The ids under an authority.
 abbrev pub ids_at : Takers → Text → Option Ids
 ids_at takers authority = get_by (λ k. slice_cmp nat_cmp authority k.now) takers
 
@@ -102,7 +102,7 @@ ids_at takers authority = get_by (λ k. slice_cmp nat_cmp authority k.now) taker
 abbrev pub taker_at : Takers → Text → Text → Option Lei
 taker_at takers authority id = option_and_then (λ ids. id_at ids id) (ids_at takers authority)
 
--- A record that was put answers for its LEI.
+-- If a record was put, it answers for its LEI.
 abbrev pub with_record : Option Row → Seen RecCell → Seen RecCell
 with_record None below = below
 with_record (Some row) below = Seen.Held (rec_cell row)
@@ -122,7 +122,8 @@ unless_replaced records (Seen.Held lei) = if has_record records lei then Seen.Em
 unless_replaced records Seen.Empty = Seen.Empty
 unless_replaced records Seen.Missing = Seen.Missing
 
--- The record that took the key last has it as long as it holds it. Where none took it, the holder below has it.
+-- The holder of a key is the record that took it last, if this still holds it. If none took it, the holder below still
+-- has it, unless its record was replaced.
 abbrev pub with_taker : Records → Text → Text → Option Lei → Seen Lei → Seen Lei
 with_taker records authority id None below = unless_replaced records below
 with_taker records authority id (Some lei) below =
@@ -130,7 +131,7 @@ with_taker records authority id (Some lei) below =
 
 -- ---- the relationships by two maps: the accepted relationship of a key, and the end of the one that was active last
 
--- Accepted relationships by start, type's text and end.
+-- Accepted relationships by start, text of the type, and end.
 abbrev pub Relations : Type 0
 Relations = BTreeMap (Lei × Bor Text × Lei) (Bor Row)
 
@@ -141,20 +142,20 @@ relation_at relations start kind end = option_copied (get_by (λ key.
     (slice_cmp nat_cmp (relation_type_text kind) key.1.now))
     (slice_cmp nat_cmp end key.2)) relations)
 
--- What a map by an LEI and a text has for these.
+-- What a map that is keyed by an LEI and a text has for these.
 abbrev pub pair_at : {X : Type 0} → BTreeMap (Lei × Bor Text) X → Lei → Text → Option X
 pair_at pairs lei text =
     get_by (λ key. ordering_then (slice_cmp nat_cmp lei key.0) (slice_cmp nat_cmp text key.1.now)) pairs
 
--- By a start and a type's text, the end of a relationship.
+-- The end of a relationship, by start and text of the type.
 abbrev pub Ends : Type 0
 Ends = BTreeMap (Lei × Bor Text) Lei
 
--- The end of the relationship of a start and a type that was put as an active one last.
+-- The end of the relationship of a start and a type that was last put as an active one.
 abbrev pub end_at : Ends → Lei → RelationType → Option Lei
 end_at ends start kind = pair_at ends start (relation_type_text kind)
 
--- A relationship that was put answers for its key.
+-- If a relationship was put, it answers for its key.
 abbrev pub with_relation : Option Row → Seen RelCell → Seen RelCell
 with_relation None below = below
 with_relation (Some row) below = Seen.Held (rel_cell row)
@@ -164,15 +165,16 @@ abbrev pub is_active_row : Option Row → Bool
 is_active_row None = false
 is_active_row (Some row) = is_active row
 
--- The active relationship below, unless it was replaced: then none was put as an active one.
+-- The active relationship below, unless it was replaced. This is for a start and a type for which no relationship was
+-- put as an active one.
 abbrev pub unless_relation_put : Relations → Lei → RelationType → Seen Lei → Seen Lei
 unless_relation_put relations start kind (Seen.Held end) =
     if is_some (relation_at relations start kind end) then Seen.Empty else Seen.Held end
 unless_relation_put relations start kind Seen.Empty = Seen.Empty
 unless_relation_put relations start kind Seen.Missing = Seen.Missing
 
--- The relationship that was put as an active one last is so as long as its key has an active one. Where there was none,
--- the one below is.
+-- The active relationship is the one that was last put as such, if its key still has an active one. If none was put as
+-- such, it is the one below, unless this was replaced.
 abbrev pub with_end : Relations → Lei → RelationType → Option Lei → Seen Lei → Seen Lei
 with_end relations start kind None below = unless_relation_put relations start kind below
 with_end relations start kind (Some end) below =
@@ -180,22 +182,22 @@ with_end relations start kind (Some end) below =
 
 -- ---- the exceptions by a map
 
--- By an LEI and a category's text, whether the exception stands.
+-- Whether the exception is held, by LEI and text of the category.
 abbrev pub Standing : Type 0
 Standing = BTreeMap (Lei × Bor Text) Bool
 
--- Whether the exception of an LEI and a category stands, where it was put or withdrawn.
+-- Whether the exception of an LEI and a category is held, if it was put or withdrawn.
 abbrev pub stands_at : Standing → Lei → ExceptionCategory → Option Bool
 stands_at standing lei category = pair_at standing lei (exception_category_text category)
 
--- An exception that was put or withdrawn answers for its key.
+-- If an exception was put or withdrawn, this answers for its key.
 abbrev pub with_exception : Option Bool → Seen ⊤ → Seen ⊤
 with_exception None below = below
 with_exception (Some stands) below = seen_fact stands
 
 -- ---- all of them
 
--- The cells below with what is in the maps over them.
+-- The cells below, with the contents of the maps put over them.
 abbrev pub overlaid : Cells → Records → Takers → Relations → Ends → Standing → Cells
 overlaid below records takers relations ends standing = record {
   record_cell = λ lei. with_record (record_at records lei) (below.record_cell lei);

@@ -12,7 +12,7 @@ use Rattle.register_judge.specs.declared.outcome.Verdict.{Verdict}
 use Rattle.register_judge.specs.declared.sitting.Sitting.{Sitting}
 use Rattle.register_judge.specs.Checks.{earlier_checks, record_checks}
 
--- The verdict by a check that failed, or by none.
+-- The verdict, given the check that failed, if any.
 abbrev pub verdict_of : Option FailedCheck → Verdict
 verdict_of None = Verdict.Accepted
 verdict_of (Some check) = Verdict.Rejected check
@@ -24,38 +24,38 @@ item_checks table sitting (Item.Record row) = record_checks table sitting row
 item_checks table sitting (Item.Relation row) = relation_checks table sitting.issuer row
 item_checks table sitting (Item.Exception item) = exception_checks table sitting.issuer item
 
--- The verdict on an item: the first of its checks that fails, or that it is accepted. C01 to C04 were asked before,
--- since they need no table.
+-- The verdict on an item: the first of its checks that fails, or that it is accepted. C01 to C04 were made before,
+-- because they need no table.
 abbrev pub verdict : Table → Sitting → Readied → Verdict
 verdict table sitting (Readied.Bad check) = Verdict.Rejected check
 verdict table sitting (Readied.Good item) = verdict_of (first_failing (item_checks table sitting item))
 
--- What is held under an item's key where it is accepted: the item, and nothing where it is a withdrawal.
+-- What is held under an item's key if it is accepted: the item, or nothing if it is a withdrawal.
 abbrev pub written : Item → Option Item
 written (Item.Record row) = Some (Item.Record row)
 written (Item.Relation row) = Some (Item.Relation row)
 written (Item.Exception item) = if item.1 then None else Some (Item.Exception item)
 
--- What an item with this verdict writes: that under its key where it is accepted, and else nothing.
+-- What an item with this verdict writes: that, under its key, if it is accepted, or else nothing.
 abbrev pub writes_of : Verdict → Readied → List (RowKey × Option Item)
 writes_of Verdict.Accepted (Readied.Good item) = (row_key item, written item) ∷ []
 writes_of verdict item = []
 
--- The item is a record that comes to C20 while none of its LEI is held.
+-- The item is a record that reaches C20 while no record with its LEI is held.
 abbrev pub is_new_record : Table → Sitting → Readied → Bool
 is_new_record table sitting (Readied.Good (Item.Record item)) =
     is_none (record_of table (lei_in item)) && is_none (first_failing (earlier_checks table sitting item))
 is_new_record table sitting item = false
 
--- What came of items: the table behind them, a verdict for each, what the accepted ones wrote, and how many of them
--- were new.
+-- The result of taking items: the table after them, a verdict for each, the writes of the accepted ones, and the number
+-- of new records, accepted or not.
 pub record Taken : Type 0 where
   pub table : Table
   pub verdicts : List Verdict
   pub writes : List (RowKey × Option Item)
   pub new_records : ℕ
 
--- One item's verdict and writes in front of those of the items behind it.
+-- One item's verdict and writes, followed by those of the items after it.
 abbrev pub in_front : Verdict → List (RowKey × Option Item) → Bool → Taken → Taken
 in_front verdict writes new rest = record {
   table = rest.table;
@@ -73,7 +73,7 @@ take table sitting (item ∷ items) =
     let writes = writes_of given item in
     in_front given writes (is_new_record table sitting item) (take (put_all writes table) sitting items)
 
--- The row of an item is that of a record, a relationship or an exception, as the item says.
+-- The row of an item is a row of its kind: of a record, a relationship or an exception.
 abbrev pub HasRow : Item → Type 0
 HasRow (Item.Record row) = IsRow row
 HasRow (Item.Relation row) = IsRelationRow row

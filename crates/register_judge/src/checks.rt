@@ -1,4 +1,4 @@
-//! The checks of a record that is brought to a table, each as a test. This project's profile.
+//! The checks of a record that an upload brings to a table, each as a test. This project's profile.
 ghost use Rattle.std.specs.Prelude.{◌≡◌, [], ◌∷◌, false, IfOk, Some, None, option_map};
 ghost use Rattle.std.specs.Option.{option_map_or};
 ghost use Rattle.std.specs.Str.{bytes_eq};
@@ -62,7 +62,7 @@ fn has_late_dates(today: i32, item: &Record) -> bool
     is_after(today, item.updated()) || is_day_after(today, item.created(), false)
 }
 
-// Whether the day of a moment is after today, and what is answered of none.
+// Whether the day of a moment is after today, or `absent` if there is no moment.
 fn is_day_after(today: i32, moment: Option<Moment>, absent: bool) -> bool
     ensures { result ≡ option_map_or (Checks.is_after today) moment absent }
 {
@@ -104,7 +104,7 @@ pub fn held_check(held: &Option<RecCell>, sitting: &Sitting, item: &Record) -> O
     }
 }
 
-// Where no record is held: C10 and C15.
+// C10 and C15, if no record is held.
 fn first_check(sitting: &Sitting, item: &Record) -> Option<Check>
     ensures { result ≡ first_failing (Checks.held_checks None sitting.now item.now) }
 {
@@ -117,7 +117,7 @@ fn first_check(sitting: &Sitting, item: &Record) -> Option<Check>
     None
 }
 
-// Where one is held: C11 to C15.
+// C11 to C15, if a record is held.
 fn change_check(held: &RecCell, sitting: &Sitting, item: &Record) -> Option<Check>
     ensures { result ≡ first_failing (Checks.held_checks (Some held.now) sitting.now item.now) }
 {
@@ -149,7 +149,7 @@ fn is_issued(status: RecordStatus) -> bool
     status == RecordStatus::Issued
 }
 
-// Whether the party to a change of the held record is another issuer than this one.
+// Whether the party to a change of the held record, its manager or its receiver, isn't this issuer.
 fn is_another(held: &RecCell, issuer: &Lei, party: Option<Party>) -> bool
     ensures { result ≡ Checks.is_another held.now issuer.now party }
 {
@@ -175,7 +175,7 @@ fn has_wrong_renewal(today: i32, item: &Record) -> bool
     !renewal_fits(item.status(), item.renewal().day(), today)
 }
 
-/// C20: whether a record is held under the item's LEI, and whether the table is full.
+/// C20: fails if no record is held under the item's LEI and the table is full.
 pub fn room_check(held: &Option<RecCell>, full: bool) -> Option<Check>
     ensures { result ≡ first_failing (Checks.c20 held.now full ∷ []) }
 {
@@ -186,7 +186,8 @@ pub fn room_check(held: &Option<RecCell>, full: bool) -> Option<Check>
     }
 }
 
-/// C21 and C22: the event that a record tells of, by the third rules. The name of an absent field takes memory.
+/// C21 and C22: the event that a record reports. Only the third rules have them. The name of an absent field is
+/// allocated.
 pub fn event_check(
     alloc: Global,
     sitting: &Sitting,
@@ -233,7 +234,7 @@ fn dates_failure(today: i32, item: &Record) -> Option<Check>
     }
 }
 
-// The field that an event lacks; none where the record tells of no event.
+// The field that an event lacks, or `None` if the record reports no event.
 fn missing_of_event(item: &Record) -> Option<&'static str>
     ensures { option_map (λ name. name.now) result ≡ Checks.missing_of_event item.now }
 {
@@ -253,7 +254,7 @@ fn tells_of_event(item: &Record) -> bool
         && item.field(32).is_empty())
 }
 
-// The first of the fields that stand in a record which tells of an event that is absent.
+// The first absent one of the fields that a record needs if it reports an event.
 fn lacking_field(item: &Record) -> Option<&'static str>
     ensures { option_map (λ name. name.now) result ≡ Checks.lacking_field item.now }
 {

@@ -13,8 +13,8 @@ use lei_records::{CellKey, Check, Item, Readied, RecCell, Record, Seen, View};
 use relation_rules::{Checked, exception_check, relation_check};
 use std::alloc::Global;
 
-/// What comes of an item: the verdict on it, and whether it came to the check of the room while no record
-/// of its LEI was held.
+/// The outcome of an item: its verdict, and whether it is a record that reached the check of room, C20, while no record
+/// with its LEI was held.
 #[derive(Drop)]
 pub struct ItemOutcome {
     pub verdict: Verdict,
@@ -30,7 +30,7 @@ fn rejection(check: Check) -> ItemOutcome
     }
 }
 
-// An item that takes up no room.
+// The outcome of an accepted item that takes up no room.
 fn acceptance() -> ItemOutcome
     ensures { result ≡ Judging.acceptance }
 {
@@ -40,7 +40,7 @@ fn acceptance() -> ItemOutcome
     }
 }
 
-/// What comes of an item over a view, where no further record fits if `full` is true.
+/// The outcome of an item over a view. If `full` is true, no further record fits.
 pub fn judge_item<V: View>(
     alloc: Global,
     view: &V,
@@ -62,7 +62,7 @@ pub fn judge_item<V: View>(
     }
 }
 
-// By what an item's checks come to, and what it comes to where they pass.
+// The outcome of an item, given the result of its checks. `passed` is its outcome if they pass.
 fn outcome_by(checked: Checked, passed: ItemOutcome) -> Result<ItemOutcome, JudgeStop>
     ensures { JudgesItem result (Judging.outcome_by checked passed) }
 {
@@ -95,7 +95,7 @@ fn judge_record<V: View>(
     outcome_by(checked, judge_late(alloc, &held, full, sitting, item)?)
 }
 
-// From C20 on.
+// The outcome of a record that reached C20, by the checks from there on.
 fn judge_late(
     alloc: Global,
     held: &Option<RecCell>,

@@ -32,16 +32,16 @@ struct Progress {
     verdicts: Vec<Verdict>,
     writes: Vec<(RowKey, Option<Item>)>,
     new_records: u32,
-    // How many records were added.
+    // The number of records that were added.
     added: u32,
     // The cells that were read, if they are listed.
     noted: Option<Noted>,
 }
 
-/// Judges the items of an upload by the newest rules from left to right, each on what the view answers with the
-/// accepted items before it put. `room` is the number of further records that fit, `issuer` uploads them, and `today`
-/// is the day, counted from 1970-01-01. The outcome lists the cells that the items needed, as the view has them: on a
-/// table that agrees with them the items come to the same.
+/// Judges the items of an upload by the newest rules, from left to right. Each is judged on what the view answers after
+/// the accepted items before it are put. `room` is the number of further records that fit, and `issuer` is the one that
+/// uploads the items. `today` is the day, counted from 1970-01-01. The outcome lists the cells that the items needed,
+/// as the view has them. On each sound table that agrees with them and has this room, the items have the same outcome.
 pub fn judge_all<V: View>(
     alloc: Global,
     view: &V,
@@ -51,21 +51,21 @@ pub fn judge_all<V: View>(
     items: &[Readied],
 ) -> Result<Outcome, JudgeStop>
     requires { length items.now ≤ 5000 }
-    // The records of the view aren't known, and so the limit is that of the ones that are added.
+    // The number of the view's records isn't known, so the limit is on the records that are added.
     ensures answers { Judges result
         (Judging.judge_items (V.cells view.now) 0 (sitting_by newest room today issuer.now) items.now) }
 
-    // Over the cells of a sound table, which has room for so many records more.
+    // Over the cells of a sound table that has room for this many more records.
     ensures over_tables { (table : Table) → IsSound table → V.cells view.now ≡ cells_of table → Takes result
         (take table (sitting_by newest (record_count table + room) today issuer.now) items.now) }
 
-    // The view has what is listed as read.
+    // The view has in each cell that is listed as read what is listed for it.
     ensures read { IfOk result (λ outcome. AnswersReads outcome.reads (V.cells view.now)) }
 
-    // On each sound table that agrees with what was read, and has room for so many records more.
+    // The outcome is the same on each sound table that agrees with the reads and has room for this many more records.
     ensures agreed { IfOk result (λ outcome. IsAgreed outcome room today issuer.now items.now) }
 
-    // The cell for want of which it stopped is one that the view lacks and an item needs.
+    // If judging stops at a cell, it is one that the view lacks and an item needs.
     ensures wanting { (key : Key) → result ≡ Err (Stop.NeedCell key) → IsTrue (lacks (V.cells view.now) key)
         × IsNeededIn (V.cells view.now) 0 (sitting_by newest room today issuer.now) items.now key }
 {
@@ -78,8 +78,8 @@ pub fn judge_all<V: View>(
     judge_each(alloc, view, Some(Noted::new(alloc)), &sitting, items)
 }
 
-/// The same by the rules of a sitting, whose limit is the number of further records that fit. It lists no cells as
-/// read, which an upload that is judged in its turn doesn't need.
+/// Judges items as [`judge_all`] does, but by the rules of a sitting. The sitting's limit is the number of further
+/// records that fit. No cells are listed as read: an upload that is judged in its turn doesn't need them.
 pub fn judge_by<V: View>(
     alloc: Global,
     view: &V,
@@ -94,8 +94,8 @@ pub fn judge_by<V: View>(
     judge_each(alloc, view, None, sitting, items)
 }
 
-// In a sitting whose limit is that of the records that are added. The cells that are read are listed if there is a list
-// for them.
+// Judges items in a sitting whose limit is on the records that are added. The cells that are read are listed if there
+// is a list for them.
 fn judge_each<V: View>(
     alloc: Global,
     view: &V,
@@ -143,7 +143,7 @@ fn judge_each<V: View>(
     Ok(outcome_of(alloc, progress))
 }
 
-// Notes the cells that an item needs over the accepted ones, as the view has them, if they are listed.
+// Notes the cells that an item needs over the accepted items, as the view has them, if cells are listed.
 fn note_item<'a, V: View>(
     alloc: Global,
     rules: Rules,
@@ -161,7 +161,7 @@ fn note_item<'a, V: View>(
     }
 }
 
-// Puts an accepted item over the view, and what it writes behind what was written.
+// Puts an accepted item over the view, and appends its write to the writes.
 fn write_item<'a, V: View>(
     alloc: Global,
     overlay: &mut Overlay<'a, V>,
@@ -195,7 +195,7 @@ fn accept<'a, V: View>(
     Ok(())
 }
 
-// What is held under the item's key then: the item, or nothing where it is a withdrawal.
+// What is held under the key of an accepted item: the item, or nothing if it is a withdrawal.
 fn written(item: &Item) -> Result<Option<Item>, NoMemory>
     ensures { IfOk result (λ held. held ≡ Taking.written item.now) }
 {
@@ -205,7 +205,7 @@ fn written(item: &Item) -> Result<Option<Item>, NoMemory>
     }
 }
 
-// Adds a verdict to what was judged.
+// Adds the outcome of an item to what was judged so far.
 fn add(progress: &mut Progress, judged: ItemOutcome) -> Result<(), NoMemory>
     requires new_records { progress.old.new_records < 5000 }
     requires added { progress.old.added < 5000 }
@@ -224,7 +224,7 @@ fn add(progress: &mut Progress, judged: ItemOutcome) -> Result<(), NoMemory>
     Ok(())
 }
 
-// How many records an item adds: one where it is accepted and new.
+// The number of records that an item adds: one if it is accepted and new.
 fn records_added(verdict: &Verdict, new: bool) -> u32
     ensures { result ≡ Judging.records_added verdict.now new }
 {
@@ -234,7 +234,7 @@ fn records_added(verdict: &Verdict, new: bool) -> u32
     }
 }
 
-// An outcome of what was judged. It has no reads if none are listed.
+// The outcome of what was judged. It has no reads if cells aren't listed.
 fn outcome_of(alloc: Global, progress: Progress) -> Outcome
     ensures shows { Shows result progress.verdicts.items progress.writes.items progress.new_records }
     ensures reads { IfSome progress.noted (λ reads. result.reads ≡ reads) }

@@ -1,4 +1,4 @@
-//! Laws of what items do to a table, each as the contract of an empty function.
+//! Laws about what items do to a table, each stated as the contract of an empty function.
 ghost use Rattle.std.specs.Prelude.{◌≡◌, ◌≤◌, ◌+◌, ℕ, ℤ, Bool, IsTrue, List, None, Ok};
 ghost use Rattle.lei_code.specs.Texts.{Lei};
 ghost use Rattle.lei_records.specs.declared.item.Item.{Item};
@@ -20,63 +20,66 @@ ghost use Rattle.register_judge.specs.Taking.{take, HaveRows};
 ghost use Rattle.register_judge.specs.Fitting.{EachRecord, EachRecordOf, ItemsFit, RowFits, TableFits};
 ghost use Rattle.successor_rules.specs.Successors.{SuccessorChainsEnd};
 
-/// Items leave a sound table sound.
+/// Items whose rows are rows of their kinds leave a sound table sound.
 pub fn items_keep_tables_sound()
     ensures { (table : Table) (sitting : Sitting) (items : List Readied)
         → IsSound table → HaveRows items → IsSound (take table sitting items).table }
 {}
 
-/// The table behind items is the one before them with what the accepted ones wrote.
+/// The table after items is the one before them, with the writes of the accepted ones put in order.
 pub fn writes_make_the_table()
     ensures { (table : Table) (sitting : Sitting) (items : List Readied)
         → (take table sitting items).table ≡ put_all (take table sitting items).writes table }
 {}
 
-/// Where each successor that a table's records name is held and each chain ends, this still holds after a record was
-/// put that passes the checks of its successors. By the first rules the records name one successor at most.
+/// Suppose each successor that a table's records name is held and each chain ends. This still holds after a record is
+/// put that passes the checks of its successors. By the first rules, each record must name at most one successor.
 pub fn accepted_successors_keep_chains()
     ensures { (rules : Rules) (table : Table) (row : Row) → TableFits rules table → RowFits rules row
         → SuccessorChainsEnd table → first_failing (successor_checks rules table row) ≡ None
         → SuccessorChainsEnd (put table (Item.Record row)) }
 {}
 
-/// It still holds after items, whatever they are. By the first rules the records and the items name one successor at
-/// most.
+/// Suppose each successor that a table's records name is held and each chain ends. This still holds after any items. By
+/// the first rules, each record and each item must name at most one successor.
 pub fn items_keep_chains()
     ensures { (table : Table) (sitting : Sitting) (items : List Readied) → TableFits sitting.rules table
         → ItemsFit sitting.rules items → SuccessorChainsEnd table
         → SuccessorChainsEnd (take table sitting items).table }
 {}
 
-/// Items of the first rules leave records of which each names one successor at most.
+/// By the first rules: if each record and each item names at most one successor, each record still does after the
+/// items. By later rules nothing is required.
 pub fn items_keep_to_their_rules()
     ensures { (table : Table) (sitting : Sitting) (items : List Readied) → TableFits sitting.rules table
         → ItemsFit sitting.rules items → TableFits sitting.rules (take table sitting items).table }
 {}
 
-/// What a test tells of each record of a table and of each among the items it tells of each record after them.
+/// If a test is true for each record of a table and for each record among the items, it is true for each record after
+/// the items.
 pub fn items_keep_what_each_record_has()
     ensures { (test : Row → Bool) (table : Table) (sitting : Sitting) (items : List Readied)
         → EachRecord (λ row. IsTrue (test row)) table → EachRecordOf (λ row. IsTrue (test row)) items
         → EachRecord (λ row. IsTrue (test row)) (take table sitting items).table }
 {}
 
-/// Items leave each chain of direct parents of a sound table with an end.
+/// If each chain of direct parents of a sound table ends, it still does after items whose rows are rows of their kinds.
 pub fn items_keep_parents()
     ensures { (table : Table) (sitting : Sitting) (items : List Readied)
         → IsSound table → ParentChainsEnd table → HaveRows items
         → ParentChainsEnd (take table sitting items).table }
 {}
 
-/// They leave no active parent of a sound table beside the exception of its category.
+/// Suppose no entity of a sound table has both an exception and an active parent of its category. This still holds
+/// after items whose rows are rows of their kinds.
 pub fn items_keep_apart()
     ensures { (table : Table) (sitting : Sitting) (items : List Readied)
         → IsSound table → AreApart table → HaveRows items → AreApart (take table sitting items).table }
 {}
 
-/// Any two limits that the records of a sound table and the new ones don't pass give the same. So an outcome that was
-/// judged with room for each record is that of the items on a sound table which agrees with its reads, under each limit
-/// that these records don't pass.
+/// Two limits give the same result on a sound table if its records and the new ones together exceed neither. So an
+/// outcome that was judged with room for 4,294,967,295 more records is that of the items on each sound table that
+/// agrees with its reads. This holds under each limit up to that number that these records don't exceed.
 pub fn limits_that_suffice_are_alike()
     ensures taken { (rules : Rules) (today : ℤ) (issuer : Lei) (table : Table) (small big : ℕ)
         (items : List Readied) → IsSound table → small ≤ big

@@ -1,9 +1,9 @@
-//! What comes of judging the items of an upload.
+//! The results of judging the items of an upload.
 use lei_outside::{List, NoMemory};
 use lei_records::{CellKey, Check, Reads, Writes};
 use std::alloc::AllocError;
 
-/// What is said of an item.
+/// The result for an item.
 #[derive(Debug, PartialEq, Eq, Drop)]
 pub enum Verdict {
     Accepted,
@@ -11,20 +11,21 @@ pub enum Verdict {
     Rejected(Check),
 }
 
-/// What came of the items of an upload.
+/// The result for the items of an upload.
 #[derive(Debug, PartialEq, Eq, Drop)]
 pub struct Outcome {
     /// One for each item, in their order.
     pub verdicts: List<Verdict>,
-    /// The keys of the accepted items, each with its item, and with none where it is a withdrawal.
+    /// The keys of the accepted items, each with its item, or with none if it is a withdrawal.
     pub writes: Writes,
-    /// How many records came to the check of the room while none of their LEI was held.
+    /// The number of records, accepted or not, that reached the check of room, C20, while no record with their LEI was
+    /// held.
     pub new_records: u32,
-    /// The cells that the items needed, with what they had, if they were listed.
+    /// The cells that the items needed, with what the view had in them. Empty if cells weren't listed.
     pub reads: Reads,
 }
 
-/// What came of the items of an upload before its turn, by the rules of a day.
+/// The outcome of an upload's items that were judged before its turn, for one day.
 #[derive(Drop)]
 pub struct Plan {
     pub outcome: Outcome,

@@ -23,34 +23,34 @@ use lei_shapes::{ExceptionCategory, RelationType};
 use std::alloc::Global;
 use std::collections::BTreeMap;
 
-// By the id of an authority, the LEI of a record.
+// The LEI of a record, by the id under one authority.
 type Ids<'a> = BTreeMap<&'a str, Lei>;
 
 // The ids of each authority.
 type Takers<'a> = BTreeMap<&'a str, Ids<'a>>;
 
-// By start, type and end. Types and categories have no order of their own, and stand by their texts.
+// Relationships by start, type and end. Types and categories have no order of their own, so their texts are used.
 type Relations<'a> = BTreeMap<(Lei, &'static str, Lei), &'a Relation>;
 
-// By start and type, the end of a relationship.
+// The end of a relationship, by start and type.
 type Ends = BTreeMap<(Lei, &'static str), Lei>;
 
-// By LEI and category, whether the exception stands.
+// Whether the exception is held, by LEI and category.
 type Standing = BTreeMap<(Lei, &'static str), bool>;
 
-// A view with accepted items over it. Each is found by the keys of its cells.
+// A view with accepted items over it. Each item is found by the keys of its cells.
 #[derive(Drop)]
 pub struct Overlay<'a, V> {
     view: &'a V,
-    // The accepted record of each LEI, and of two with one LEI the later.
+    // The accepted record of each LEI. If two have the same LEI, it is the later one.
     records: BTreeMap<Lei, &'a Record>,
-    // The record that took a key last. It may have given the key up again.
+    // The record that took each key last. It may no longer hold the key.
     takers: Takers<'a>,
-    // The accepted relationship of each key, and of two with one key the later.
+    // The accepted relationship of each key. If two have the same key, it is the later one.
     relations: Relations<'a>,
-    // The end of the relationship that was put as an active one last. It may not be active any longer.
+    // The end of the relationship that was last put as an active one. It may no longer be active.
     ends: Ends,
-    // The exceptions that were put or withdrawn.
+    // For each exception that was put or withdrawn, whether it is held.
     standing: Standing,
 }
 
@@ -109,7 +109,7 @@ impl<'a, V: View> Overlay<'a, V> {
         }
     }
 
-    /// Puts an item over what is there, or withdraws it.
+    /// Puts an item over what is there. A withdrawal leaves no exception under its key.
     pub fn put(&mut self, alloc: Global, item: &'a Item) -> Result<(), NoMemory>
         ensures { OnOk result (cells_in V.cells self.new
             ≡ Overlays.put_cells (cells_in V.cells self.old) (row_key item.now, written item.now)) }
@@ -157,7 +157,7 @@ impl<'a, V: View> Overlay<'a, V> {
         ids.get(id).copied()
     }
 
-    // The record that took a key, if it still holds it.
+    // The LEI of the record that took a key, if the record still holds it.
     fn if_held(&self, authority: &str, id: &str, lei: Lei) -> Seen<Lei>
         ensures { result ≡ (if Overlays.row_holds authority.now id.now
             (Overlays.record_at self.now.records lei)
@@ -197,7 +197,7 @@ impl<'a, V: View> Overlay<'a, V> {
         self.standing.get(&(*lei, category.text())).copied()
     }
 
-    // The end of the relationship that was put as an active one last, if it still is one.
+    // The end of the relationship that was last put as an active one, if it still is active.
     fn if_active(&self, start: &Lei, kind: RelationType, end: Lei) -> Seen<Lei>
         ensures { result ≡ (if Overlays.is_active_row
             (Overlays.relation_at self.now.relations start.now kind end)
@@ -209,7 +209,7 @@ impl<'a, V: View> Overlay<'a, V> {
         }
     }
 
-    // The end of the active relationship below, unless that was replaced.
+    // The end of the active relationship below, unless that relationship was replaced.
     fn unless_relation_put(&self, start: &Lei, kind: RelationType, below: Seen<Lei>) -> Seen<Lei>
         ensures { result ≡ Overlays.unless_relation_put self.now.relations start.now kind below }
     {
@@ -220,7 +220,7 @@ impl<'a, V: View> Overlay<'a, V> {
     }
 }
 
-// Notes who has a record's key now, if the record holds one.
+// Notes a record as the one that took its key last, if it holds one.
 fn put_taker<'a>(alloc: Global, takers: &mut Takers<'a>, item: &'a Record) -> Result<(), NoMemory>
     ensures { OnOk result ((authority id : List ℕ) → Overlays.taker_at takers.new authority id
         ≡ (if Cells.holds authority id item.now then Some (lei_in item.now)
@@ -235,7 +235,7 @@ fn put_taker<'a>(alloc: Global, takers: &mut Takers<'a>, item: &'a Record) -> Re
     }
 }
 
-// Notes that a record has this key.
+// Notes this LEI as that of the record that took the key last.
 fn insert<'a>(
     alloc: Global,
     takers: &mut Takers<'a>,
@@ -253,7 +253,7 @@ fn insert<'a>(
     }
 }
 
-// Notes the first id of an authority.
+// Notes the first id under an authority.
 fn insert_first<'a>(
     alloc: Global,
     takers: &mut Takers<'a>,
@@ -297,7 +297,7 @@ fn insert_record<'a>(
     }
 }
 
-// Notes the end of an active relationship.
+// Notes the end of a relationship, if it is active.
 fn put_end(ends: &mut Ends, item: &Relation) -> Result<(), NoMemory>
     ensures { OnOk result ((start : List ℕ) (kind : RelationType) → Overlays.end_at ends.new start kind
         ≡ (if Spelled.is_active item.now && is_from start kind item.now then Some (end_in item.now)
@@ -324,7 +324,7 @@ fn insert_relation<'a>(relations: &mut Relations<'a>, item: &'a Relation) -> Res
     }
 }
 
-// Notes whether an exception stands behind this item.
+// Notes whether the exception is held after this item.
 fn insert_standing(standing: &mut Standing, item: &ExceptionItem) -> Result<(), NoMemory>
     ensures { OnOk result ((lei : List ℕ) (category : ExceptionCategory)
         → Overlays.stands_at standing.new lei category

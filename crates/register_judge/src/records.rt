@@ -19,7 +19,8 @@ use relation_rules::{Checked, failed, telling};
 use std::alloc::Global;
 use successor_rules::{Walked, spread, walk};
 
-/// From C10 on, with the record that is held under the item's LEI. The key of a cell that is lacking takes memory.
+/// C10 to C19, with the record that is held under the item's LEI. The key of a cell that the view lacks may be
+/// allocated.
 pub fn check_with_held<V: View>(
     alloc: Global,
     view: &V,
@@ -39,7 +40,7 @@ pub fn check_with_held<V: View>(
     }
 }
 
-// From C16 on by the first rules.
+// C16 to C19 by the first rules.
 fn check_first<V: View>(alloc: Global, view: &V, item: &Record) -> Result<Checked, NoMemory>
     ensures { IfOk result (λ checked. checked
         ≡ Judging.check_first (V.cells view.now) item.now (successor_in item.now)) }
@@ -50,7 +51,7 @@ fn check_first<V: View>(alloc: Global, view: &V, item: &Record) -> Result<Checke
     }
 }
 
-// From C16 on by the later rules.
+// C16 to C19 by the later rules.
 fn check_levels<V: View>(alloc: Global, view: &V, item: &Record) -> Result<Checked, NoMemory>
     ensures { IfOk result (λ checked. checked
         ≡ Judging.check_levels (V.cells view.now) item.now (successors_in item.now)) }
@@ -65,7 +66,7 @@ fn check_levels<V: View>(alloc: Global, view: &V, item: &Record) -> Result<Check
     }
 }
 
-// What C16 comes to for the first of these that isn't held, if there is one.
+// The result of C16 at the first of these that isn't held or whose cell the view lacks, if there is one.
 fn first_unheld<V: View>(view: &V, leis: &[Lei]) -> Option<Checked>
     ensures { (next : Outcome) → Judging.check_each (V.cells view.now) leis.now next ≡ unwrap_or result next }
 {
@@ -79,7 +80,7 @@ fn first_unheld<V: View>(view: &V, leis: &[Lei]) -> Option<Checked>
     None
 }
 
-// From C17 on by the later rules, of an item whose successors are held.
+// C17 to C19 by the later rules, for an item whose successors are held.
 fn check_spread<V: View>(
     alloc: Global,
     view: &V,
@@ -93,7 +94,7 @@ fn check_spread<V: View>(
     by_walk(alloc, view, item, spread(view, &item.lei(), successors))
 }
 
-// By what becomes of the walk of an item's successors.
+// C17 to C19, given the result of the walk along an item's successors.
 fn by_walk<V: View>(
     alloc: Global,
     view: &V,
@@ -111,7 +112,7 @@ fn by_walk<V: View>(
     }
 }
 
-// From C16 on, of an item with this successor.
+// C16 to C19 by the first rules, for an item with this successor.
 fn check_successor<V: View>(
     alloc: Global,
     view: &V,
@@ -128,7 +129,7 @@ fn check_successor<V: View>(
     }
 }
 
-// From C17 on, of an item whose successor is held.
+// C17 to C19 by the first rules, for an item whose successor is held.
 fn check_walk<V: View>(
     alloc: Global,
     view: &V,
@@ -142,7 +143,7 @@ fn check_walk<V: View>(
     by_walk(alloc, view, item, walk(view, successor, &item.lei()))
 }
 
-// C19. A record that isn't live doesn't ask for its key.
+// C19. The key of a record that isn't live isn't looked up.
 fn check_key<V: View>(alloc: Global, view: &V, item: &Record) -> Result<Checked, NoMemory>
     ensures { IfOk result (λ checked. checked ≡ Judging.check_key (V.cells view.now) item.now) }
 {
@@ -156,7 +157,7 @@ fn check_key<V: View>(alloc: Global, view: &V, item: &Record) -> Result<Checked,
     }
 }
 
-// The key of the cell that an item's authority key names.
+// The key of the cell for an item's authority key.
 fn key_cell(alloc: Global, item: &Record) -> Result<CellKey, NoMemory>
     ensures { IfOk result (λ key. key ≡ Judging.key_cell (akey item.now)) }
 {

@@ -6,8 +6,8 @@ use lei_records::Rules;
 #[derive(Debug, Clone, Copy, PartialEq, Eq)]
 pub struct Sitting {
     pub rules: Rules,
-    /// How many records there may be: all of a table, or, where only some of its cells are known, those
-    /// that are added.
+    /// The greatest number of records: of all that a table has or, if only some of its cells are known, of those that
+    /// are added.
     pub limit: u32,
     /// The day, counted from 1970-01-01.
     pub today: i32,

@@ -1,4 +1,4 @@
--- What a crash may leave after an entry was to be added.
+-- What a crash may leave after a step that was to add an entry.
 use Rattle.std.proofs.Common.{◌≡◌, ◌⊎◌, inl, inr, ◌≤◌, [], ◌∷◌, ◌++◌, length, Option, None, Some, refl, sym, ap, subst, arith, length-append}
 use Rattle.std.specs.Prelude.{IfSome}
 use Rattle.lei_outside.specs.Keeping.{KeptTables, LeavesEither, LeavesTold, with_batch}
@@ -14,7 +14,7 @@ use Rattle.upload_ledger.specs.History.{History}
 use Rattle.register_state.specs.Books.{with_entry}
 use Rattle.register_state.specs.Crashes.{CrashStays, IsLeftOf, LeavesAlso}
 
--- the tables that are told are those of the office with the entry
+-- the keeper tells the tables of the office with the entry
 pub crash-added : (old new : OfficeState) (e : KeptEntry) (told : Option KeptTables) (before after : Option KeptTables → Type 0) → new ≡ with_entry old e → Keeps told new → LeavesTold told after
     → CrashStays old new told before after
 crash-added old new e told before after added keeps leaves only (inl same) =
@@ -25,7 +25,7 @@ crash-added old new e None before after added keeps leaves only (inr some) = cc
 crash-added old new e (Some tables) before after added keeps leaves only (inr some) = λ left is.
     subst (IsLeftOf new) (sym (leaves left is)) (inl keeps)
 
--- nothing was added, and a crash may leave the entry
+-- nothing was added, but a crash may leave the entry
 pub crash-refused : (old new : OfficeState) (e : KeptEntry) (told : Option KeptTables) (before after : Option KeptTables → Type 0) → new ≡ old → Legal (with_entry old e)
     → LeavesAlso (AreTablesOf (with_entry old e)) before after → CrashStays old new told before after
 crash-refused old new e told before after same legal leaves only any = λ left is.
@@ -35,7 +35,7 @@ crash-refused old new e told before after same legal leaves only any = λ left i
     by_left left (inl earlier) = only left earlier
     by_left left (inr with) = subst (IsLeftOf old) (sym with.1) (inr (e, legal, with.2))
 
--- a batch that was refused
+-- a batch that the keeper refused
 pub refused-leaves : (told : Option KeptTables) (history : History) (before after : Held) (batch : Batch) (old new : Option KeptTables → Type 0) → 1 ≤ batch.entry.seq
     → Touches batch.entry.seq before after → AreTouchedCells batch.entry.seq after batch.cells → LeavesEither batch told old new → IfSome told (AreTablesWith history before)
     → LeavesAlso (AreTablesWith (history ++ batch.entry ∷ []) after) old new

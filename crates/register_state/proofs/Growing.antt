@@ -19,14 +19,14 @@ use Rattle.register_state.specs.Books.{AreBooks, with_entry, writes_of}
 use Rattle.register_state.specs.Deciding.{FitsNext}
 use Rattle.register_history.specs.declared.terms.EntryTerms.{EntryTerms}
 
--- the entry that a request adds by rules that may follow leads to a history that can come about
+-- the entry that a request adds by rules that may follow leads to a legal history
 pub legal-added : (office : OfficeState) (rules : ℕ) (request : Request) (moment : ℤ) (at : EntryTerms) (e : KeptEntry) → IsRequest request → IsMoment moment
     → may_follow office.history rules ≡ true → at ≡ terms_by rules office.history moment → Legal office → outcome_at office request at ≡ adds e → Legal (with_entry office e)
 legal-added office rules request moment at e asked is follows stamped legal comes =
     let came : outcome_by rules office request moment ≡ adds e = ap (outcome_at office request) (sym stamped) ∙ comes in
     Legal-push office.limits office.history e legal (added-is_next office.limits office.history rules request moment e asked is follows legal came)
 
--- rules that may follow are those of the terms that were made of them
+-- if rules may follow, the rules of the terms that are built from them may follow
 pub terms-follow : (office : OfficeState) (rules : ℕ) (moment : ℤ) (at : EntryTerms) → at ≡ terms_by rules office.history moment → may_follow office.history rules ≡ true
     → may_follow office.history at.rules ≡ true
 terms-follow office rules moment at stamped follows = ap (λ (t : EntryTerms). may_follow office.history t.rules) stamped ∙ follows
@@ -42,7 +42,7 @@ pub legal-new : (office : OfficeState) (request : Request) (moment : ℤ) (at : 
 legal-new office request moment at e asked is stamped legal comes =
     legal-added office newest_rules request moment at e asked is (newest-follows office.limits office.history legal) stamped legal comes
 
--- the books with the entry
+-- the books with one more entry
 pub books-push : (limits : Limits) (history later : History) (old new : TableState) (e : KeptEntry) (writes : WriteList) → AreBooks limits history old → Legal (with_entry (office_of limits history) e)
     → FitsNext (office_of limits history) e → writes ≡ writes_of (office_of limits history) e → later ≡ history ++ e ∷ [] → new.held ≡ touch_all e.seq writes old.held
     → rows new.held ≡ put_all writes (rows old.held) → IsLater (e.seq + 1) new.held → AreBooks limits later new

@@ -1,4 +1,4 @@
--- What was made of each member of a list in several threads.
+-- What several threads make from the members of a list.
 use Rattle.std.proofs.Common.{◌≡◌, List, [], ◌∷◌, map, refl, ap, subst, ◌∙◌, Bor}
 use Rattle.std.specs.Prelude.{Err, IfOk, Ok, Result}
 use Rattle.std.specs.Fn.{FnReturnsAt, Shared}
@@ -8,7 +8,7 @@ pub if_ok : {V E : Type 0} (r : Result V E) (P Q : V → Type 0) → IfOk r P �
 if_ok (Ok v) P Q h f = f v h
 if_ok (Err e) P Q h f = tt
 
--- where each call gave what a function gives, the answers are what it gives at all members
+-- if each call returned what a function gives, the results are what the function gives for all members
 pub all_made : {F T U E : Type 0} (g : Shared F (Bor T × Unit {0}) (Result U E)) (f : F) (h : T → U)
     → ((z : Bor T) (u : U) → g.post f (z, tt) (Ok u) → u ≡ h z.now)
     → (xs : List T) (us : List U) → AllZip (λ x u. FnReturnsAt g f x (Ok u)) xs us → us ≡ map h xs

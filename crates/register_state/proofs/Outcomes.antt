@@ -1,4 +1,4 @@
--- What a request is not refused with: that nothing can be kept is found by the keeper alone.
+-- A request is never decided to be refused with `KeeperFault`: only the keeper finds that nothing can be kept.
 use Rattle.std.proofs.Common.{◌≡◌, ℕ, List, ◌||◌, ◌==◌, Bool, true, false, cond, ltb, length, is_some, Option, Some, None, Result, Ok, Err, subst, ◌∙◌}
 use Rattle.upload_format.specs.Bodies.{upload}
 use Rattle.register_words.specs.declared.malformed.Malformed.{Malformed}
@@ -33,7 +33,7 @@ use Rattle.register_history.specs.Replies.{Outcome, accredit_outcome, accreditat
 use Rattle.register_history.specs.State.{OfficeState}
 use Rattle.register_history.specs.declared.terms.EntryTerms.{EntryTerms}
 
--- what was decided, by what it is
+-- the outcome, by the form of the decision
 pub stays_of : (office : OfficeState) (request : Request) (outcome : Outcome) (decision : Decision) (reply : Reply) → decision ≡ Stays reply
     → Decides office request outcome (Ok decision) → outcome ≡ stays reply
 stays_of office request outcome decision reply is decides = (let D : Decision → Type 0 = λ d. Decides office request outcome (Ok d) in subst D is decides)
@@ -50,7 +50,7 @@ pub next_of : (office : OfficeState) (request : Request) (decision : Decision) (
     → IsRequest request × FitsNext office entry
 next_of office request decision entry list is next = (let D : Decision → Type 0 = λ d. AddsNext office request (Ok d) in subst D is next)
 
--- the reply of an outcome that adds nothing is not that
+-- the reply of an outcome that adds nothing isn't `KeeperFault`
 abbrev IsNoFault : Outcome → Type 0
 IsNoFault (stays reply) = reply ≡ Words KeeperFault → ⊥
 IsNoFault (adds e) = Unit {0}

@@ -36,14 +36,14 @@ use Rattle.lei_records.specs.RuleNumbers.{newest, rules_of}
 
 -- ---- the items of a body
 
--- there are at most 5,000
+-- a body has at most 5,000 items
 pub few_items : (call : Call) (items : List Readied) → AreItemsOf call items → length items ≤ 5000
 few_items call items is =
     subst (λ n. n ≤ 5000) (sym (ap length is.are ∙ length-map is.raws (ready newest))) (upload-within call.body is.raws is.reads)
 
--- ---- what items come to
+-- ---- the outcome of items
 
--- items that were judged on the table as it is kept, in the sitting as it was handed on
+-- items that were judged on the table as it is kept, in the sitting that was passed on
 pub judged_by : (office : OfficeState) (call : Call) (terms : EntryTerms) (outcome : judged.Outcome) (raws : List RawItem) (sitting : Sitting) (items : List Readied) (table : Table)
     → upload call.body ≡ Ok raws → items ≡ map (ready (rules_of terms.rules)) raws
     → sitting ≡ sitting_by (rules_of terms.rules) office.limits.records (day_of terms.moment) call.office → table ≡ after office.limits office.history
@@ -55,7 +55,7 @@ judged_by office call terms outcome raws sitting items table reads same held is 
     let T : Table → Type 0 = λ t. ShowsTaken outcome (take t sitting items) in
     record { raws = raws; reads = reads; taken = subst R same (subst S held (subst T is shows)) }
 
--- items that were judged ahead, by the newest rules
+-- items that were judged ahead of their turn, by the newest rules
 pub planned_by : (office : OfficeState) (call : Call) (terms : EntryTerms) (plan : Plan) → IsPlanOf call plan → terms.rules ≡ newest_rules → plan.today ≡ day_of terms.moment
     → IsSound (after office.limits office.history) → Agrees plan.outcome.reads (after office.limits office.history)
     → record_count (after office.limits office.history) + plan.outcome.new_records ≤ office.limits.records
@@ -68,12 +68,12 @@ planned_by office call terms plan is by_newest today sound agrees fits less =
     (sitting_by (rules_of rules) office.limits.records (day_of terms.moment) call.office) (map (ready (rules_of rules)) is.raws)) in
     record { raws = is.raws; reads = is.reads; taken = subst S (sym by_newest) (record { verdicts = shows.verdicts_are; writes = shows.writes_are }) }
 
--- ---- what is decided
+-- ---- the decision
 
 none_of : (full much : Bool) → full ≡ false → much ≡ false → (full || much) ≡ false
 none_of full much not_full not_much = ap (λ b. b || much) not_full ∙ not_much
 
--- the entry of such an upload, for which there is room, with what it writes
+-- the entry of such an upload, for which there is room, with its writes
 pub judged_decides : (office : OfficeState) (call : Call) (terms : EntryTerms) (outcome : judged.Outcome) (entry : KeptEntry) (list : WriteList)
     → IsTakenBy office call terms outcome → is_full office ≡ false → is_too_much office call.body ≡ false
     → entry ≡ upload_entry office.history call terms outcome.verdicts → list ≡ outcome.writes

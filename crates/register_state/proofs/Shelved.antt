@@ -49,11 +49,11 @@ shelved-none limits kept keeps = keeps
 
 -- ---- an entry that publishes nothing
 
--- the trail stays
+-- the trail stays the same
 pub same-shelved : (limits : Limits) (history : History) (e : KeptEntry) (kept : Kept) → is_publication e ≡ false → IsShelved (office_of limits history) kept → IsShelved (office_of limits (history ++ e ∷ [])) kept
 same-shelved limits history e kept is shelved = subst (λ t. KeepsTrail t kept) (sym (trail-same limits history e is)) shelved
 
--- an entry that was taken for another request publishes nothing
+-- an entry for any other request publishes nothing
 abbrev publishes : Request → Bool
 publishes (Publish number) = true
 publishes request = false
@@ -92,7 +92,7 @@ upload-shelves limits history call terms shelf result shelved decides =
 
 -- ---- a publication
 
--- the trail has one more
+-- the trail has one more publication
 pub next-shelved : (limits : Limits) (history : History) (e : KeptEntry) (kept : Kept) → is_publication e ≡ true
     → KeepsTrail (trail (office_of limits history) ++ publication_by limits history e ∷ []) kept → IsShelved (office_of limits (history ++ e ∷ [])) kept
 next-shelved limits history e kept is keeps =
@@ -119,7 +119,7 @@ issues-length [] (publication ∷ made) are = absurd are
 issues-length (issue ∷ issues) [] are = absurd are
 issues-length (issue ∷ issues) (publication ∷ made) are = let rest = issues-length issues made are.1 in omega (arith, rest)
 
--- there is room for one more
+-- there is room for one more publication
 pub shelf-few : (limits : Limits) (history : History) (kept : Kept) (number : ℕ) → IsShelved (office_of limits history) kept → number ≤ 1_000_000 → number ≡ next_publication history
     → length kept.issues < 1_000_000
 shelf-few limits history kept number shelved most next =
@@ -144,7 +144,7 @@ latest-push : (made : Trail) (p : Publication) → latest (made ++ p ∷ []) ≡
 latest-push [] p = refl
 latest-push (first ∷ later) p = ap Some (last_behind-push first later p)
 
--- the latest rows are as many as the entry tells
+-- the numbers of the latest rows are those in the entry's answer
 pub published-counted : (limits : Limits) (history : History) (made : Trail) (e : KeptEntry) (counts : ℕ × ℕ × ℕ)
     → counts.0 ≡ length (latest_rows (made ++ publication_by limits history e ∷ []) Sheet.Lei) → counts.1 ≡ length (latest_rows (made ++ publication_by limits history e ∷ []) Sheet.Rr)
     → counts.2 ≡ length (latest_rows (made ++ publication_by limits history e ∷ []) Sheet.Repex) → counts ≡ published_counts (after limits history)
@@ -165,7 +165,7 @@ none-published made kept keeps none = by_issues kept.issues (subst (AreIssuesOf 
     by_issues [] are = refl
     by_issues (issue ∷ issues) are = absurd are
 
--- where there is a publication, its copy is told
+-- if there is a publication, its copy is the reply
 pub copy-told : (made : Trail) (kept : Kept) (sheet : Sheet) (form : Form) (bytes : List ℕ) → KeepsTrail made kept → (kept.issues ≡ [] → ⊥)
     → ((made : Trail) (last : Publication) → KeepsTrail made kept → latest made ≡ Some last → bytes ≡ copy_of (length made) last sheet form)
     → copy_outcome sheet form made ≡ stays (Text 200 (form_kind form) bytes)
@@ -182,7 +182,7 @@ copy-none (first ∷ later) kept sheet form keeps none = absurd (subst (λ l. Ar
 
 -- ---- deltas
 
--- what is to be answered where a shelf gives this
+-- what has to be answered if a shelf returns this
 abbrev pub IsToldOf : Request → Outcome → Form → Result texts.Text ShelfFault → Type 0
 IsToldOf request outcome form (Ok text) = outcome ≡ stays (Text 200 (form_kind form) text)
 IsToldOf request outcome form (Err shelf_faults.NoMemory) = IsTrue (takes_memory request (reply_of outcome))
@@ -190,7 +190,7 @@ IsToldOf request outcome form (Err shelf_faults.NothingPublished) = outcome ≡ 
 IsToldOf request outcome form (Err shelf_faults.PublicationUnknown) = outcome ≡ stays (Words PublicationUnknown)
 IsToldOf request outcome form (Err shelf_faults.NoBase) = outcome ≡ stays (Words NoBase)
 
--- what a shelf gives for a base, and why it gives nothing, by the trail that it keeps
+-- what a shelf returns for a base, and the fault that it reports, by the trail that it keeps
 abbrev pub Refuses : Base → Kept → Result texts.Text ShelfFault → Type 0
 Refuses base kept given = (made : Trail) (fault : ShelfFault) → KeepsTrail made kept → base_in (moments_of made) base ≡ Err fault → given ≡ Err fault
 

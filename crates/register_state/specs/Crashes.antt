@@ -1,4 +1,4 @@
--- What a crash may leave of an office.
+-- What a crash may leave from an office.
 use Rattle.std.specs.Prelude.{◌≡◌, ◌⊎◌, Option, None, Some, IsSome}
 use Rattle.lei_outside.specs.Keeping.{KeptTables}
 use Rattle.lei_outside.specs.declared.entry.KeptEntry.{KeptEntry}
@@ -7,25 +7,26 @@ use Rattle.register_history.specs.Legal.{Legal}
 use Rattle.register_history.specs.State.{OfficeState}
 use Rattle.register_state.specs.Books.{with_entry}
 
--- The tables of the office, or those of the office with one more entry that can come about.
+-- The tables of the office, or those of the office with one more entry and a legal history.
 abbrev pub IsLeftOf : OfficeState → Option KeptTables → Type 0
 IsLeftOf office None = ⊥
 IsLeftOf office (Some tables) = AreTablesOf office tables
     ⊎ ((e : KeptEntry) × Legal (with_entry office e) × AreTablesOf (with_entry office e) tables)
 
--- All that a crash may leave is that.
+-- A crash may leave only these.
 abbrev pub LeavesOnly : OfficeState → (Option KeptTables → Type 0) → Type 0
 LeavesOnly office leaves = (left : Option KeptTables) → leaves left → IsLeftOf office left
 
--- What a crash may leave is what it might have left before, or such tables.
+-- What a crash may leave is what it could leave before, or tables with the property `P`.
 abbrev pub LeavesAlso : (KeptTables → Type 0) → (Option KeptTables → Type 0)
     → (Option KeptTables → Type 0) → Type 0
 LeavesAlso P old new =
     (left : Option KeptTables) → new left
     → old left ⊎ ((tables : KeptTables) × (left ≡ Some tables) × P tables)
 
--- If a crash might have left nothing but tables of the old office or of it with one more entry, then it may leave
--- nothing but those of the new one. Where an entry was added, the keeper has to tell its tables for that.
+-- Suppose that before a step a crash could leave only tables of the old office, or of it with one more entry. Then
+-- after it a crash can leave only those of the new office, or of it with one more entry. If an entry was added, the
+-- keeper has to tell its tables for that.
 abbrev pub CrashStays : OfficeState → OfficeState → Option KeptTables → (Option KeptTables → Type 0)
     → (Option KeptTables → Type 0) → Type 0
 CrashStays old new told before after =

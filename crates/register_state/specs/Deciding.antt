@@ -1,4 +1,4 @@
--- What is decided of a request before anything changes.
+-- What is decided for a request before anything changes.
 use Rattle.std.specs.Prelude.{◌≡◌, ◌+◌, ◌++◌, ◌∷◌, [], length, IsTrue, Result, Ok, Err}
 use Rattle.std.specs.Str.{IsAscii}
 use Rattle.lei_outside.specs.declared.faults.KeepFault.{KeepFault}
@@ -17,31 +17,31 @@ use Rattle.register_words.specs.declared.reply.Reply.{Reply}
 use Rattle.register_words.specs.declared.reply.Reply.TheVariants.{Words}
 use Rattle.upload_ledger.specs.Limits.{AreFew}
 
--- the reply, where nothing is added; the entry that is added, and what it writes; or want of memory, where the reply
--- takes it
+-- the reply, if nothing is added; the entry that is added, and its writes; or an out-of-memory error, if the reply
+-- needs memory
 abbrev pub Decides : OfficeState → Request → Outcome → Result Decision NoMemory → Type 0
 Decides office request outcome (Ok (Stays reply)) = outcome ≡ stays reply
 Decides office request outcome (Ok (Adds entry list)) = (outcome ≡ adds entry)
     × (list ≡ writes_of office entry)
 Decides office request outcome (Err wanted) = IsTrue (takes_memory request (reply_of outcome))
 
--- the reply to a request that adds nothing, or want of memory, where the reply takes it
+-- the reply to a request that adds nothing, or an out-of-memory error, if the reply needs memory
 abbrev pub Tells : Request → Outcome → Result Reply NoMemory → Type 0
 Tells request outcome (Ok reply) = outcome ≡ stays reply
 Tells request outcome (Err wanted) = IsTrue (takes_memory request (reply_of outcome))
 
--- an entry has the next number, an office that is ASCII, and a place in the ledger
+-- an entry has the next number, an office that is ASCII, and room in the ledger
 abbrev pub FitsNext : OfficeState → KeptEntry → Type 0
 FitsNext office entry =
     (entry.seq ≡ length office.history + 1) × IsAscii entry.office × AreFew (office.history ++ entry ∷ [])
 
--- an entry that is decided to be added is such an entry, for a request as readers make it
+-- if a decision adds an entry, the entry fits, and the request is one that readers can make
 abbrev pub AddsNext : OfficeState → Request → Result Decision NoMemory → Type 0
 AddsNext office request (Ok (Stays reply)) = Unit {0}
 AddsNext office request (Ok (Adds entry list)) = IsRequest request × FitsNext office entry
 AddsNext office request (Err wanted) = Unit {0}
 
--- what is answered where an entry was to be added: its reply, or why it wasn't
+-- the reply, or the refusal that says why there is none
 abbrev pub reply_or : Result Reply KeepFault → Reply
 reply_or (Ok reply) = reply
 reply_or (Err keep_faults.NoMemory) = Words refusals.NoMemory

@@ -1,4 +1,4 @@
--- Uploads that are judged: what their items come to, in their turn or ahead of it.
+-- Uploads that are judged: the outcome of their items, in their turn or ahead of it.
 use Rattle.std.specs.Prelude.{◌≡◌, List, map, Ok}
 use Rattle.lei_records.specs.Items.{ready}
 use Rattle.lei_records.specs.RuleNumbers.{newest, rules_of}
@@ -23,15 +23,15 @@ pub record AreItemsOf (call : Call) (items : List Readied) : Type 0 where
   pub reads : upload call.body ≡ Ok raws
   pub are : items ≡ map (ready newest) raws
 
--- A plan of an upload by the newest rules. Its body has a reading, and on each sound table that agrees with what the plan has read, what the
--- items come to on the plan's day is the plan's outcome: with room for 4,294,967,295 records more, which is no limit for
--- the at most 5,000 items of a body.
+-- A plan of an upload by the newest rules. Its body has a reading. On each sound table that agrees with what the plan
+-- has read, the outcome of the items on the plan's day is the plan's outcome. That is with room for 4,294,967,295 more
+-- records, which is no limit for the at most 5,000 items of a body.
 pub record IsPlanOf (call : Call) (plan : Plan) : Type 0 where
   pub raws : List RawItem
   pub reads : upload call.body ≡ Ok raws
   pub agreed : IsAgreed plan.outcome 4294967295 plan.today call.office (map (ready newest) raws)
 
--- The upload's body has a reading, and the outcome is what its items come to on these terms on the office's table.
+-- The upload's body has a reading, and the outcome is that of its items on these terms on the office's table.
 pub record IsTakenBy (office : OfficeState) (call : Call) (terms : EntryTerms) (outcome : Outcome) : Type 0 where
   pub raws : List RawItem
   pub reads : upload call.body ≡ Ok raws

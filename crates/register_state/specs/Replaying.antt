@@ -1,4 +1,4 @@
--- What is found where a stored entry is replayed.
+-- The result of replaying a stored entry.
 use Rattle.std.specs.Prelude.{◌≡◌, ◌≢◌, Option, Some, None}
 use Rattle.lei_outside.specs.declared.entry.KeptEntry.{KeptEntry}
 use Rattle.lei_shapes.specs.Moment.{IsMoment}
@@ -10,8 +10,8 @@ use Rattle.register_state.specs.Books.{with_entry}
 use Rattle.register_state.specs.declared.decision.Decision.{Decision}
 use Rattle.register_state.specs.declared.decision.Decision.TheVariants.{Adds, Stays}
 
--- The request adds the stored entry by the entry's own rules and at its own moment, and the entry was added; or this is what the request
--- comes to in its place, and nothing was added.
+-- The request adds the stored entry by the entry's own rules and at its own moment, and the entry was added. Or this is
+-- what the request leads to instead, and nothing was added.
 abbrev pub ReplaysRequest : OfficeState → Request → KeptEntry → OfficeState → Option Decision → Type 0
 ReplaysRequest before request e after None =
     (outcome_by e.rules before request e.moment ≡ adds e) × IsRequest request × IsMoment e.moment

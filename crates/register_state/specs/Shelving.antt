@@ -1,4 +1,4 @@
--- Shelving: what the shelf keeps of a history, and what becomes of it where a request is decided.
+-- Shelving: what the shelf keeps of a history, and how that changes when a request is decided.
 use Rattle.std.specs.Prelude.{◌≡◌, Bool, true, false, Option, Some, Result, Ok, Err}
 use Rattle.golden_shelf.specs.Shelves.{Kept, ShelfState, Keeps as KeepsTrail}
 use Rattle.lei_outside.specs.declared.faults.NoMemory.{NoMemory}
@@ -13,14 +13,14 @@ use Rattle.register_history.specs.State.{OfficeState}
 abbrev pub IsShelved : OfficeState → Kept → Type 0
 IsShelved office kept = KeepsTrail (trail office) kept
 
--- what a shelf comes back to where an entry isn't kept: what it had before a publication, and what it has before any
--- other entry
+-- what a shelf returns to if an entry isn't kept: what it had before a publication, or what it has if the entry is
+-- another
 abbrev pub back_to : Bool → ShelfState → Option Kept
 back_to true shelf = shelf.before
 back_to false shelf = Some shelf.now
 
--- Where an entry is to be added, the shelf keeps the publications of the history with it, and comes back to what it
--- kept if the entry isn't kept. Else it keeps what it kept.
+-- If an entry is to be added, the shelf keeps the publications of the history with it. It returns to what it kept
+-- before if the entry isn't kept. If no entry is to be added, it keeps what it kept.
 abbrev pub Shelves : OfficeState → ShelfState → Result Decision NoMemory → ShelfState → Type 0
 Shelves office old (Ok (Stays reply)) new = new.now ≡ old.now
 Shelves office old (Ok (Adds entry list)) new =

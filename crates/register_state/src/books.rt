@@ -1,4 +1,4 @@
-//! The books of a register: what doesn't change while a request is decided.
+//! The books of a register: its limits, its ledger and its table. They don't change while a request is decided.
 ghost use Rattle.std.specs.Prelude.{◌≡◌, take, IfOk, length};
 ghost use Rattle.lei_shapes.specs.Moment.{IsMoment};
 ghost use Rattle.lei_records.specs.Tables.{cells_of};
@@ -23,7 +23,7 @@ use std::alloc::Global;
 use std::marker::Model;
 use upload_ledger::Ledger;
 
-// How many cells are fetched at most. This project's profile.
+// The most cells that one call fetches. This project's profile.
 const MOST_FETCHED: u32 = 50_000;
 
 /// The limits and the ledger of a register, and the table that the ledger's entries leave.
@@ -47,7 +47,7 @@ impl Model for Books {
 }
 
 impl Books {
-    // The books without an entry.
+    // Books without entries.
     pub fn new(alloc: Global, limits: Limits) -> Result<Self, NoMemory>
         requires { AreLimits limits }
         ensures { IfOk result (λ books. books ≡ opened limits) }
@@ -62,7 +62,7 @@ impl Books {
         })
     }
 
-    // What is taken at most.
+    // The limits on what is taken.
     pub fn limits(&self) -> Limits
         ensures value { result ≡ self.now.limits }
         ensures limits { AreLimits result }
@@ -93,7 +93,7 @@ impl Books {
         }
     }
 
-    // The cells of these keys, and of the walks from the records among them.
+    // The cells of these keys, and those of the walks from the records among them.
     pub fn fetch(&self, keys: &[CellKey]) -> Result<Fetched, NoMemory>
         ensures cells { IfOk result (λ fetched. HasJust (cells_in fetched)
             (cells_of (after self.now.limits self.now.history))
@@ -103,7 +103,7 @@ impl Books {
         self.table.fetch(keys, MOST_FETCHED)
     }
 
-    // Whether there are as many entries as the limit.
+    // Whether the number of entries has reached the limit.
     pub fn is_full(&self) -> bool
         ensures value { result ≡ is_full self.now }
         ensures few { AreFew self.now.history }
@@ -111,7 +111,7 @@ impl Books {
         self.ledger.totals().entries >= self.limits.entries
     }
 
-    // Whether the bodies that are kept would have more bytes than the limit, with this one.
+    // Whether this body would bring the bodies that are kept to more bytes than the limit.
     pub fn is_too_much(&self, body: &[u8]) -> bool
         ensures { result ≡ is_too_much self.now body.now }
     {
@@ -119,7 +119,7 @@ impl Books {
     }
 }
 
-// The moment that is so many seconds after 1970-01-01T00:00:00Z.
+// The moment this many seconds after 1970-01-01T00:00:00Z.
 fn moment_of(seconds: i64) -> Moment
     requires { IsMoment seconds }
     ensures { result ≡ seconds }

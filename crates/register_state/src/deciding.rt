@@ -1,4 +1,4 @@
-//! What is decided of a request. Nothing but the shelf changes by it, where a publication is made.
+//! Decides what a request is answered and what it adds. Only the shelf changes, and only if a publication is made.
 ghost use Rattle.std.specs.Prelude.{◌≡◌, ◌≤◌, ◌+◌, false, IfOk, IfSome, IsTrue};
 ghost use Rattle.lei_shapes.specs.Moment.{day_of};
 ghost use Rattle.lei_records.specs.RuleNumbers.{rules_of};
@@ -37,8 +37,8 @@ use upload_format::{Reader, UploadFault};
 use upload_ledger::Place;
 
 impl Books {
-    // Decides a request, where an entry that is added has these rules and this moment. A publication that is made
-    // stands on the shelf then, and can be taken back.
+    // Decides a request. An entry that is added has these rules and this moment. A publication that is made is on the
+    // shelf afterwards, and can be undone.
     pub fn decide<R: Threads + Sync>(
         &self,
         rt: &R,
@@ -70,7 +70,7 @@ impl Books {
         }
     }
 
-    // Shows the record of this LEI.
+    // Replies with the record of this LEI.
     fn show(&self, lei: &Lei) -> Result<Reply, NoMemory>
         ensures { Tells (Show lei.now)
             (show_outcome (row_at (after self.now.limits self.now.history) lei.now)) result }
@@ -84,7 +84,7 @@ impl Books {
         }
     }
 
-    // Tells what was answered to the issuer's upload of this number.
+    // Replies with the answer that is kept for the issuer's upload of this number.
     fn kept(&self, issuer: &Lei, number: u32) -> Result<Reply, NoMemory>
         ensures { Tells (Kept issuer.now number) (kept_outcome self.now.history issuer.now number) result }
     {
@@ -97,7 +97,7 @@ impl Books {
         }
     }
 
-    // Tells how much is kept and held.
+    // Replies with the numbers of what is kept and held.
     fn status(&self) -> Result<Reply, NoMemory>
         ensures { Tells Status (status_outcome self.now.history
             (after self.now.limits self.now.history)) result }
@@ -111,7 +111,7 @@ impl Books {
             (accredit_outcome self.now issuer.now terms.now (accredited self.now.history issuer.now)) result }
         ensures next { AddsNext self.now (Accredit issuer.now) result }
     {
-        // A step of the proof: what is accredited is named by an LEI.
+        // A step of the proof: the issuer is named by a valid LEI.
         let _ = issuer.as_bytes();
         if let Some(text) = self.ledger.accredited(issuer) {
             return Ok(Decision::Stays(kept_reply(self.alloc, text)?));
@@ -123,7 +123,7 @@ impl Books {
         Ok(Decision::Adds(entry, List::from(Vec::new(self.alloc))))
     }
 
-    // Decides an upload, which may have been judged ahead.
+    // Decides an upload, which may have been judged ahead of its turn.
     #[tactic(auto, unfolding(register_history::specs::Replies::upload_outcome))]
     pub fn upload<R: Threads + Sync>(
         &self,
@@ -157,7 +157,7 @@ impl Books {
         }
     }
 
-    // Takes an upload of the next number: as it was planned if it still comes to that, and else by its body.
+    // Takes an upload of the next number: as planned if the plan is still usable, and otherwise by reading its body.
     fn take_fresh<R: Threads + Sync>(
         &self,
         rt: &R,
@@ -188,7 +188,7 @@ impl Books {
         self.take_upload(rt, reader, call, terms)
     }
 
-    // Takes an upload as it was planned. Its body isn't read again.
+    // Takes an upload as planned. Its body isn't read again.
     fn take_planned(
         &self,
         call: &Call,
@@ -206,7 +206,7 @@ impl Books {
             (body_outcome self.now call.now terms.now (items_of call.now.body)) result }
         ensures next { AddsNext self.now (Upload call.now) result }
     {
-        // A step of the proof: the limits are such.
+        // A step of the proof: the limits are in their ranges.
         let _limits = self.limits();
         if self.is_full() || self.is_too_much(call.body.as_slice()) {
             return Ok(refused(Refusal::LedgerFull));
@@ -242,7 +242,7 @@ impl Books {
         self.add_judged(call, judged, terms)
     }
 
-    // The entry of an upload whose items were judged, and for which there is room, with what it writes.
+    // The entry of an upload whose items were judged and for which there is room, with its writes.
     fn add_judged(
         &self,
         call: &Call,
@@ -257,7 +257,7 @@ impl Books {
             (body_outcome self.now call.now terms.now (items_of call.now.body)) result }
         ensures next { AddsNext self.now (Upload call.now) result }
     {
-        // A step of the proof: what sends it is named by an LEI.
+        // A step of the proof: the sender is named by a valid LEI.
         let _ = call.office.as_bytes();
         let entry = taken_upload(
             self.alloc,
@@ -270,7 +270,7 @@ impl Books {
     }
 }
 
-// The sitting for an upload by the rules and on the day of its entry, where there may be so many records.
+// The sitting for an upload by the rules and on the day of its entry, if the table may have this many records.
 fn sitting(records: u32, call: &Call, terms: &EntryTerms) -> Sitting
     requires first { 1 ≤ terms.now.rules }
     requires last { terms.now.rules ≤ newest_rules }
@@ -294,7 +294,7 @@ fn json_reply(text: Bytes) -> Reply
     }
 }
 
-// A text that is kept of an accreditation or an upload, as it is answered.
+// The text that is kept for an accreditation or an upload, as a reply.
 fn kept_reply(alloc: Global, text: &[u8]) -> Result<Reply, NoMemory>
     ensures { IfOk result (λ reply. reply ≡ json_reply 200 text.now) }
 {

@@ -1,16 +1,16 @@
-//! What is decided of a request.
+//! The type of a decision on a request.
 ghost use Rattle.std.specs.Prelude.{◌≡◌};
 
 use lei_outside::KeptEntry;
 use lei_records::Writes;
 use register_words::{Refusal, Reply};
 
-/// What is decided of a request.
+/// A decision on a request: the reply, or the entry to add.
 #[derive(Drop)]
 pub enum Decision {
     /// Nothing is added, and this is the reply.
     Stays(Reply),
-    /// This entry is added, whose answer is the reply, and these are its writes.
+    /// This entry is added, with these writes. Its answer is the reply.
     Adds(KeptEntry, Writes),
 }
 

@@ -1,4 +1,4 @@
-// The entries that are added.
+//! Builds the entries that are added.
 ghost use Rattle.std.specs.Prelude.{◌≡◌, ◌+◌, length, IfOk};
 ghost use Rattle.lei_shapes.specs.Moment.{IsMoment};
 ghost use Rattle.upload_ledger.specs.History.{stamp};
@@ -17,7 +17,7 @@ use register_words::Call;
 use std::alloc::Global;
 use upload_ledger::{ACCREDIT, PUBLISH, UPLOAD};
 
-/// The number of the rules of each entry that is made now.
+/// The number of the rules by which new entries are made.
 pub const RULES: u16 = 3;
 
 // The moment of the next entry: the later of the clock's moment and the last entry's.
@@ -32,7 +32,7 @@ pub fn stamp(entries: &[KeptEntry], moment: Moment) -> i64
     }
 }
 
-// An accreditation of the issuer.
+// The entry of the issuer's accreditation.
 pub fn accreditation(
     alloc: Global,
     entries: &[KeptEntry],
@@ -54,7 +54,7 @@ pub fn accreditation(
     })
 }
 
-// An upload of the issuer, with the verdicts on its items.
+// The entry of an upload of the issuer, with the verdicts on its items.
 pub fn taken_upload(
     alloc: Global,
     entries: &[KeptEntry],
@@ -77,7 +77,7 @@ pub fn taken_upload(
     })
 }
 
-// The publication of this number, with so many records, relationships and exceptions.
+// The entry of the publication of this number, with this many records, relationships and exceptions.
 pub fn publication(
     alloc: Global,
     entries: &[KeptEntry],

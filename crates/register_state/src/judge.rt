@@ -1,4 +1,4 @@
-// What an upload's items come to.
+//! Judges the items of an upload, in several threads if there are many.
 ghost use Rattle.std.specs.Prelude.{◌≡◌, ◌≤◌, ◌+◌, IfOk, IsTrue, length, map};
 ghost use Rattle.cell_reads.specs.Reads.{Agrees};
 ghost use Rattle.lei_shapes.specs.Moment.{IsMoment, day_of};
@@ -20,12 +20,12 @@ use std::sync::ledger::{Blank, Ledger};
 use std::thread::Threads;
 use worker_pool::{Steps, map_list};
 
-// From so many items on their checks are asked in several threads. An item takes some microseconds, and a thread some
-// fifty of them to start. `map_list` gives a thread at least 1,024 members: fewer than twice as many would stay in one
-// thread, and there a plain loop takes the memory for all of them at once.
+// If there are at least this many items, their fields are checked in several threads. An item takes some microseconds,
+// and a thread takes about fifty to start. `map_list` gives a thread at least 1,024 members, so fewer than twice as
+// many would stay in one thread. For these a plain loop is better, because it allocates memory for all of them at once.
 const MANY_ITEMS: usize = 2_048;
 
-// Judges the items of an upload on the table, in a sitting whose limit is that of all records of the table.
+// Judges the items of an upload on the table, in a sitting whose limit is for all records of the table.
 pub fn judge(
     alloc: Global,
     table: &Table,
@@ -50,8 +50,8 @@ pub fn judge(
     }
 }
 
-// Whether an upload comes to what was planned: the plan is of the moment's day, the table agrees with what the plan has
-// read, and there is room for the plan's new records.
+// Whether a plan can be used. It has to be for the moment's day, the table has to agree with what the plan has read,
+// and the plan's new records have to fit.
 pub fn is_usable(table: &Table, records: u32, moment: i64, plan: &Plan) -> bool
     requires moment { IsMoment moment }
     requires fits { record_count (rows table.now.held) ≤ records }
@@ -65,7 +65,7 @@ pub fn is_usable(table: &Table, records: u32, moment: i64, plan: &Plan) -> bool
         && table.agrees(&plan.outcome.reads)
 }
 
-// Asks the checks of each item's fields by the rules of this number, in several threads if the items are many.
+// Checks the fields of each item by the rules of this number, in several threads if there are many items.
 pub fn ready_all<R: Threads + Sync>(
     rt: &R,
     alloc: Global,
@@ -82,7 +82,7 @@ pub fn ready_all<R: Threads + Sync>(
     ready_in_threads::<Brand, R>(rt, alloc, rules, raws, Blank::new(1))
 }
 
-// The same in as many threads as there are processors. Each item is a step, counted in a ledger that nobody reads.
+// The same, in as many threads as there are processors. Each item is a step, counted in a ledger that nobody reads.
 fn ready_in_threads<L: Ledger, R: Threads + Sync>(
     rt: &R,
     alloc: Global,

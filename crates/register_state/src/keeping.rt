@@ -1,4 +1,4 @@
-//! An entry that is added: its writes go into the table, and it is kept with the cells that it touched.
+//! Adds an entry: its writes go into the table, and the keeper keeps the entry with the cells that it touched.
 ghost use Rattle.std.specs.Prelude.{◌≡◌, ◌≤◌, ◌+◌, ◌++◌, ◌∷◌, [], IfOk, IfSome, OnOk, OnErr, IsAscii, IsErrOf, length, map, option_map};
 ghost use Rattle.std.specs.List.{AllByRecursion};
 ghost use Rattle.copy_forms.specs.Items.{item_text};
@@ -28,8 +28,8 @@ use upload_ledger::{Ledger, PUBLISH};
 const NAME: usize = 71;
 
 impl Books {
-    // Adds an entry with its writes, and says its reply. The keeper gets it once, after all memory was taken. Where it
-    // isn't kept, or memory is wanting, nothing changes.
+    // Adds an entry with its writes, and returns its reply. The keeper gets the entry once, after all memory was
+    // allocated. If the entry isn't kept, or if memory runs out, nothing changes.
     pub fn add<K: Keeper>(
         &mut self,
         keeper: &mut K,
@@ -64,7 +64,7 @@ impl Books {
         }
     }
 
-    // Adds an entry that is kept already, with its writes. Where memory is wanting, nothing changes.
+    // Adds an entry that is kept already, with its writes. If memory runs out, nothing changes.
     pub fn add_kept(&mut self, entry: KeptEntry, writes: &Writes) -> Result<(), NoMemory>
         requires legal { Legal (with_entry self.old entry) }
         requires fits { FitsNext self.old entry }
@@ -78,7 +78,7 @@ impl Books {
         Ok(())
     }
 
-    // The cells that entries touched last whose numbers are greater than `after` and at most `upto`.
+    // The cells that were last touched by entries with numbers greater than `after` and at most `upto`.
     pub fn touched_cells(&self, after: u64, upto: u64) -> Result<List<KeptCell>, NoMemory>
         ensures { IfOk result (AreCellsTouched after upto (held_after self.now.limits self.now.history)) }
     {
@@ -86,7 +86,7 @@ impl Books {
     }
 }
 
-// The reply that an entry's answer makes.
+// The reply with an entry's answer.
 fn told(alloc: Global, entry: &KeptEntry) -> Result<Reply, NoMemory>
     ensures { IfOk result (λ reply. reply ≡ told entry.now) }
 {
@@ -97,7 +97,7 @@ fn told(alloc: Global, entry: &KeptEntry) -> Result<Reply, NoMemory>
     })
 }
 
-// Keeps an entry whose writes are in the table. The tables that the keeper has are those before them.
+// Keeps an entry whose writes are in the table. The keeper's tables are those before these writes.
 fn keep<K: Keeper>(
     alloc: Global,
     ledger: &mut Ledger,
@@ -137,7 +137,7 @@ fn keep<K: Keeper>(
     }
 }
 
-// The cells that entries touched last whose numbers are greater than `after` and at most `upto`.
+// The cells that were last touched by entries with numbers greater than `after` and at most `upto`.
 fn touched_cells(
     alloc: Global,
     table: &Table,
@@ -162,7 +162,7 @@ fn kept_cells(alloc: Global, touched: &[Touched]) -> Result<Vec<KeptCell>, NoMem
     Ok(cells)
 }
 
-// A touched key, as the cell that is kept of it.
+// A touched key, as the cell that is kept for it.
 fn kept_cell(alloc: Global, told: &Touched) -> Result<KeptCell, NoMemory>
     ensures cell { IfOk result (λ cell. cell ≡ kept_cell told.now) }
     ensures key { IsKey told.now.key }
@@ -210,7 +210,7 @@ fn kind(key: &RowKey) -> u8
     }
 }
 
-// The texts of a row's key, with a space between two.
+// The texts of a row's key, separated by single spaces.
 fn name(alloc: Global, key: &RowKey) -> Result<Bytes, NoMemory>
     ensures { IfOk result (λ name. name ≡ name_of key.now) }
 {
@@ -230,7 +230,7 @@ fn name(alloc: Global, key: &RowKey) -> Result<Bytes, NoMemory>
     Ok(Bytes::from(name))
 }
 
-// Puts a space and a text behind a name.
+// Appends a space and a text to a name.
 fn put_behind(name: &mut Vec<u8>, text: &[u8]) -> Result<(), NoMemory>
     ensures { OnOk result (name.new.items ≡ name.old.items ++ 32 ∷ text.now) }
 {

@@ -1,5 +1,5 @@
-//! The register as one value: it decides what is answered and added, over its ledger, its table and its shelf, and adds
-//! and keeps the entry.
+//! The register as one value, with its ledger, its table and its shelf. It decides how a request is answered and what
+//! is added, and adds and keeps the entry.
 #![tactic(auto)]
 
 mod books;

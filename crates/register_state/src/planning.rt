@@ -1,4 +1,4 @@
-//! Plans: what an upload comes to, judged ahead of its turn over a part of the table.
+//! Plans: the outcome of an upload, judged ahead of its turn on a part of the table.
 ghost use Rattle.std.specs.Prelude.{IfSome};
 ghost use Rattle.register_state.specs.Planning.{AreItemsOf, IsPlanOf};
 
@@ -12,8 +12,8 @@ use std::alloc::Global;
 use std::thread::Threads;
 use upload_format::Reader;
 
-/// The items of an upload, with the checks of their fields asked by the newest rules. There are none if the body has no
-/// reading, or if memory runs out.
+/// The items of an upload, with their fields checked by the newest rules. There are none if the body has no reading, or
+/// if memory runs out.
 pub fn items_of<R: Threads + Sync>(rt: &R, alloc: Global, call: &Call) -> Option<Vec<Readied>>
     ensures { IfSome result (λ items. AreItemsOf call.now items.items) }
 {
@@ -24,8 +24,8 @@ pub fn items_of<R: Threads + Sync>(rt: &R, alloc: Global, call: &Call) -> Option
     ready_all(rt, alloc, RULES, upload.items.as_slice()).ok()
 }
 
-/// A plan of an upload by the newest rules, by what a view has of a table. There is none if the view lacks a cell that
-/// an item needs, or if memory runs out.
+/// A plan of an upload by the newest rules, judged on what a view has of a table. There is none if the view lacks a
+/// cell that an item needs, or if memory runs out.
 pub fn plan_of<V: View>(
     alloc: Global,
     view: &V,
@@ -43,7 +43,7 @@ pub fn plan_of<V: View>(
     }
 }
 
-/// How many items a plan accepts.
+/// The number of items that a plan accepts.
 pub fn accepted_items(plan: &Plan) -> u32 {
     let mut count: u32 = 0;
     for verdict in plan.outcome.verdicts.as_slice() {

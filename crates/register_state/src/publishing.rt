@@ -1,5 +1,5 @@
-//! Publications: what changed since the last one goes onto the shelf, which gives copies of the latest and deltas to
-//! it.
+//! Publications: what changed since the last one goes onto the shelf, which gives copies of the latest publication and
+//! deltas to it.
 ghost use Rattle.std.specs.Prelude.{◌≡◌, ◌<◌, ◌++◌, ◌∷◌, [], IfOk, IsTrue, OnErr, OnOk, Some, false, length, map};
 ghost use Rattle.copy_csv.specs.Sheets as sheets;
 ghost use Rattle.copy_forms.specs.Trails.{Publication, Trail};
@@ -34,12 +34,12 @@ use std::thread::Threads;
 use upload_ledger::PUBLISH;
 use worker_pool::Steps;
 
-// The first rules by which publications are wide.
+// The number of the first rules by which publications are wide.
 const WIDE_RULES: u16 = 3;
 
 impl Books {
-    // Decides a publication of this number, whose entry has these rules and this moment if it is made, and publishes it
-    // on the shelf then.
+    // Decides a publication of this number. If it is made, its entry has these rules and this moment, and it goes onto
+    // the shelf.
     pub fn publish<R: Threads + Sync>(
         &self,
         rt: &R,
@@ -69,7 +69,7 @@ impl Books {
         Ok(Decision::Adds(entry, List::from(Vec::new(self.alloc))))
     }
 
-    // Publishes the next publication on the shelf, and makes its entry.
+    // Puts the next publication onto the shelf, and makes its entry.
     fn publish_next<R: Threads + Sync>(
         &self,
         rt: &R,
@@ -98,7 +98,7 @@ impl Books {
         }
     }
 
-    // What the next publication changes.
+    // The changes that the next publication makes.
     fn next_changes(&self) -> Result<Vec<(RowKey, Option<Row>)>, NoMemory>
         ensures changes { IfOk result
             (λ changes. AreNextChanges self.now.limits self.now.history changes.items) }
@@ -111,7 +111,7 @@ impl Books {
     }
 }
 
-// The text that is kept of a publication, as it is answered.
+// The text that is kept for a publication, as a reply.
 fn published_reply(alloc: Global, text: &[u8]) -> Result<Reply, NoMemory>
     ensures { IfOk result (λ reply. reply ≡ json_reply 201 text.now) }
 {
@@ -122,7 +122,7 @@ fn published_reply(alloc: Global, text: &[u8]) -> Result<Reply, NoMemory>
     })
 }
 
-// The number of the entry that made the latest publication, 0 where there is none. Only the entries behind it are
+// The number of the entry that made the latest publication, or 0 if there is none. The entries before that one aren't
 // looked at.
 fn last_published(entries: &[KeptEntry]) -> u64
     ensures { result ≡ last_published entries.now }
@@ -136,8 +136,8 @@ fn last_published(entries: &[KeptEntry]) -> u64
     0
 }
 
-// Publishes these changes on the shelf, under the terms of the publication's entry. The steps that it takes are counted
-// in a ledger that nobody reads.
+// Publishes these changes on the shelf, under the terms of the publication's entry. The steps of this are counted in a
+// ledger that nobody reads.
 fn shelve<L: Counted, R: Threads + Sync>(
     rt: &R,
     shelf: &mut Shelf,
@@ -162,15 +162,15 @@ fn shelve<L: Counted, R: Threads + Sync>(
     shelf.publish(rt, terms.moment, is_wide(terms.rules), changes, &mut steps)
 }
 
-// Whether the files of a publication are wide, where they may be, by the rules of its entry.
+// Whether a publication is wide, by the rules of its entry. Only some of its files can be wide.
 fn is_wide(rules: u16) -> bool
     ensures { result ≡ is_wide rules }
 {
     rules >= WIDE_RULES
 }
 
-// The keys that entries touched last whose numbers are greater than `after` and at most `upto`, each with the row that
-// is published of it, or with none.
+// The keys that were last touched by entries with numbers greater than `after` and at most `upto`, each with the row
+// that is published for it, or with none.
 fn changes_since(
     alloc: Global,
     table: &Table,
@@ -183,7 +183,7 @@ fn changes_since(
     changes_of(alloc, touched.as_slice())
 }
 
-// What became of touched keys.
+// The changes of touched keys.
 fn changes_of(alloc: Global, touched: &[Touched]) -> Result<Vec<(RowKey, Option<Row>)>, NoMemory>
     ensures { IfOk result (λ changes. changes.items ≡ map change_of touched.now) }
 {
@@ -194,7 +194,7 @@ fn changes_of(alloc: Global, touched: &[Touched]) -> Result<Vec<(RowKey, Option<
     Ok(changes)
 }
 
-// The row that is published of what is held under a key.
+// The row that is published for what is held under a key.
 fn row_of(alloc: Global, item: &Option<Item>) -> Result<Option<Row>, NoMemory>
     ensures { IfOk result (λ row. row ≡ row_published item.now) }
 {
@@ -204,7 +204,7 @@ fn row_of(alloc: Global, item: &Option<Item>) -> Result<Option<Row>, NoMemory>
     }
 }
 
-// The row that is published of an item: none of a relationship whose registration is annulled.
+// The row that is published for an item. A relationship whose registration is annulled has none.
 fn published_row(alloc: Global, item: &Item) -> Result<Option<Row>, NoMemory>
     ensures { IfOk result (λ row. row ≡ row_published (Some item.now)) }
 {
@@ -220,7 +220,7 @@ fn published_row(alloc: Global, item: &Item) -> Result<Option<Row>, NoMemory>
     }
 }
 
-// The row of a sheet with these texts, which are copied into one piece of memory.
+// The row of a sheet with these texts, which are copied into one allocation.
 fn sheet_row(alloc: Global, sheet: Sheet, fields: &FieldTexts) -> Result<Row, NoMemory>
     requires { length fields.now ≡ sheets.width sheet }
     ensures { IfOk result (λ row. row ≡ sheets.row_of sheet fields.now) }
@@ -232,7 +232,7 @@ fn sheet_row(alloc: Global, sheet: Sheet, fields: &FieldTexts) -> Result<Row, No
     Ok(Row::of(sheet, texts))
 }
 
-// How many bytes texts have together.
+// The number of bytes of all texts together.
 fn bytes_of(fields: &FieldTexts) -> usize {
     let mut bytes = 0_usize;
     for index in 0..fields.len() {
@@ -241,7 +241,7 @@ fn bytes_of(fields: &FieldTexts) -> usize {
     bytes
 }
 
-/// The copy of a sheet in the latest publication.
+/// Replies with the copy of a sheet in the latest publication, or refuses if nothing was published.
 pub fn copy(shelf: &Shelf, sheet: Sheet, form: Form) -> Result<Reply, NoMemory>
     ensures { (trail : Trail) → KeepsTrail trail shelf.now.now
         → Tells (Copy sheet form) (copy_outcome sheet form trail) result }
@@ -252,7 +252,7 @@ pub fn copy(shelf: &Shelf, sheet: Sheet, form: Form) -> Result<Reply, NoMemory>
     }
 }
 
-// The copy of a sheet in the latest publication, of which there is one.
+// Replies with the copy of a sheet in the latest publication, if there is one.
 fn latest_copy(shelf: &Shelf, sheet: Sheet, form: Form) -> Result<Reply, NoMemory>
     requires { ¬ (shelf.now.now.issues ≡ []) }
     ensures { (trail : Trail) → KeepsTrail trail shelf.now.now
@@ -264,7 +264,8 @@ fn latest_copy(shelf: &Shelf, sheet: Sheet, form: Form) -> Result<Reply, NoMemor
     }
 }
 
-/// The delta of a sheet from its base to the latest publication.
+/// Replies with the delta of a sheet from its base to the latest publication, or refuses if there is no such base or
+/// publication.
 pub fn delta(shelf: &Shelf, base: Base, sheet: Sheet, form: Form) -> Result<Reply, NoMemory>
     ensures { (trail : Trail) → KeepsTrail trail shelf.now.now
         → Tells (Delta base sheet form) (delta_outcome base sheet form trail) result }
@@ -278,7 +279,7 @@ pub fn delta(shelf: &Shelf, base: Base, sheet: Sheet, form: Form) -> Result<Repl
     }
 }
 
-// A file in this form, as it is answered.
+// A file in this form, as a reply.
 fn file_reply(form: Form, text: Bytes) -> Reply
     ensures { result ≡ Reply.Text 200 (form_kind form) text }
 {
@@ -289,7 +290,7 @@ fn file_reply(form: Form, text: Bytes) -> Reply
     }
 }
 
-// The kind of a text that is a file in this form.
+// The kind of text that a file in this form is.
 fn form_kind(form: Form) -> Kind
     ensures { result ≡ form_kind form }
 {

@@ -1,4 +1,4 @@
-//! The register: it answers requests, and keeps what it takes.
+//! The register: it answers requests, and keeps the entries that it adds.
 ghost use Rattle.std.specs.Prelude.{◌≡◌, ◌≤◌, take, IfOk, IfSome, IsErrOf, IsSome, IsTrue, OnErr, Some};
 ghost use Rattle.lei_outside.specs.Count.{Rose};
 ghost use Rattle.lei_shapes.specs.Moment.{IsMoment};
@@ -59,7 +59,7 @@ impl Model for Register {
 }
 
 impl Register {
-    /// A register that took nothing yet.
+    /// A register without entries.
     pub fn new(alloc: Global, limits: Limits) -> Result<Self, NoMemory>
         requires { AreLimits limits }
         ensures { IfOk result (λ register. register ≡ opened limits) }
@@ -74,7 +74,7 @@ impl Register {
         })
     }
 
-    /// What it takes at most. No call changes that.
+    /// The limits on what it takes. No call changes them.
     pub fn limits(&self) -> Limits
         ensures value { result ≡ self.now.limits }
         ensures limits { AreLimits result }
@@ -92,7 +92,8 @@ impl Register {
         self.books.entries()
     }
 
-    /// The cells that entries touched last whose numbers are greater than `after` and at most `upto`, as they are kept.
+    /// The cells, as they are kept, that were last touched by entries with numbers greater than `after` and at most
+    /// `upto`.
     pub fn touched_cells(&self, after: u64, upto: u64) -> Result<List<KeptCell>, NoMemory>
         ensures { IfOk result (AreCellsTouched after upto (held_after self.now.limits self.now.history)) }
     {
@@ -110,8 +111,8 @@ impl Register {
         self.books.fetch(keys)
     }
 
-    /// Answers a request that came at this moment. An entry that is added is kept before it is answered; `Err` says why
-    /// none could be.
+    /// Answers a request that came at this moment. An entry that is added is kept before the request is answered. `Err`
+    /// says why there is no reply: the keeper failed, or memory ran out.
     pub fn answer<K: Keeper, R: Threads + Sync>(
         &mut self,
         rt: &R,
@@ -152,9 +153,9 @@ impl Register {
         }
     }
 
-    /// Answers an upload that came at this moment, as `answer` does its request, whether there is a plan of it or none.
-    /// A plan is used if it is of the day, if the table agrees with what it has read, and if its new records fit: then
-    /// neither is the body read nor are its items judged. Nothing has to be copied for that.
+    /// Answers an upload that came at this moment, as `answer` answers the same request, with or without a plan of it.
+    /// A plan is used if it is for this day, if the table agrees with what it has read, and if its new records fit.
+    /// Then the body isn't read and its items aren't judged. Nothing has to be copied for that.
     pub fn settle<K: Keeper, R: Threads + Sync>(
         &mut self,
         rt: &R,
@@ -188,8 +189,8 @@ impl Register {
         }
     }
 
-    /// Adds a stored entry, if its request adds the same one by the entry's own rules and at its own moment. Else it
-    /// gives what the request comes to in its place, and adds nothing.
+    /// Adds a stored entry, if its request adds the same one by the entry's own rules and at its own moment. Otherwise
+    /// it returns what the request leads to instead, and adds nothing.
     pub fn replay<R: Threads + Sync>(
         &mut self,
         rt: &R,
@@ -236,7 +237,7 @@ fn is_same(entry: &KeptEntry, other: &KeptEntry) -> bool
     entry == other
 }
 
-// Takes a publication back from the shelf, where one was made for an entry that isn't added.
+// Undoes a publication on the shelf if it was made for an entry that isn't added.
 fn take_back(shelf: &mut Shelf, publishes: bool)
     requires { IsSome (back_to publishes shelf.old) }
     ensures { Some shelf.new.now ≡ back_to publishes shelf.old }

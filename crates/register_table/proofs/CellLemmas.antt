@@ -1,4 +1,4 @@
--- Slots under keys as a finite map of cells: what a look-up, an insertion and a removal come to.
+-- Slots under keys as a finite map of cells: the results of a look-up, an insertion and a removal.
 use Rattle.std.specs.Prelude.{◌≡◌, ℕ, ◌+◌, ◌<◌, ◌≤◌, Bool, true, false, cond, List, [], ◌∷◌, length, map, Option, Some, None, IfSome, option_map, is_some}
 use Rattle.std.specs.BTreeMap.{is_at, insert_entry}
 use Rattle.std.specs.FinMap.{contains_key, empty, entries, from_entries, get, insert, len, remove, get-from_entries, get-insert, get-remove, len-empty, len-entries, len-insert, same_map}
@@ -68,12 +68,12 @@ pub get-out : (held : Held) (slots : List (TextKey × Slot)) (k : RowKey) (o : O
     → o ≡ lookup (is_at (text_cmp (record { key = k }))) slots → option_map cell_in o ≡ get held (cell_key k)
 get-out held slots k o is found = ap (option_map cell_in) found ∙ (sym (get-held_in slots k) ∙ ap (λ h. get h (cell_key k)) is)
 
--- nothing is held where a look-up finds nothing
+-- nothing is held under a key if a look-up finds nothing
 pub get-none : (held : Held) (slots : List (TextKey × Slot)) (k : RowKey) → held_in slots ≡ held
     → lookup (is_at (text_cmp (record { key = k }))) slots ≡ None → get held (cell_key k) ≡ None
 get-none held slots k is none = sym (get-out held slots k None is (sym none))
 
--- ---- slots stand under their own keys
+-- ---- slots are under their own keys
 
 own_item : (a b : RowKey) (item : Option Item) → cell_key a ≡ cell_key b → IsItemOf b item → IsItemOf a item
 own_item a b None same own = tt
@@ -165,7 +165,7 @@ held_in-none slots none = ap held_in none
 
 -- ---- a removal
 
--- a key of one of the slots, or one under which nothing is found
+-- a key is that of some row, or nothing is found under it
 named : (q : KeyTexts) (slots : List (TextKey × Slot)) → ((k : RowKey) × (q ≡ cell_key k)) ⊎ (find key_cmp q (map under_texts slots) ≡ None)
 named q [] = inr refl
 named q (e ∷ slots) =
@@ -218,7 +218,7 @@ len-held_in slots =
     let is = len-entries (held_in slots) in
     let same = length-map slots under_texts in omega (arith, less, is, same)
 
--- the counts of cells of which there are fewer than 2^63 can rise
+-- if there are fewer than 2^63 cells, their counts can rise
 pub can_rise : (slots : List (TextKey × Slot)) (counts : Counts) → AreCounts counts (rows (held_in slots)) → length slots < 9223372036854775808 → CanRise counts
 can_rise slots counts are few =
     let less = len-held_in slots in

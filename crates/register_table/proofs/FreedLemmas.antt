@@ -36,7 +36,7 @@ dropped_still : (b : Bool) (o : Noted) → one_in (cond b (dropped o) o) ≡ one
 dropped_still true o = dropped_one o
 dropped_still false o = refl
 
--- ---- what stands under one key
+-- ---- what is under one key
 
 free_fewer : (b : Bool) (o : Noted) → is_some (one_in (cond b (freed o) o)) ≡ true → is_some (one_in o) ≡ true
 free_fewer true None is = is
@@ -59,7 +59,7 @@ drop_one (Some (Some lei)) is = refl
 
 -- ---- a loop over notes
 
--- what holds of the notes so far still does, and it holds of the next one
+-- what holds for the notes so far still does, and it holds for the next one
 pub each_next : (P Q : Note → Type 0) (notes : List Note) (place : ℕ) (note : Note) → place < length notes → note ≡ get_or notes place note
     → ((n : Note) → P n → Q n) → Q note → ((k : ℕ) (d : Note) → k < place → P (get_or notes k d))
     → (k : ℕ) (d : Note) → k < place + 1 → Q (get_or notes k d)
@@ -81,7 +81,7 @@ pub note_still : (some fewer others more : Marks) → Stays fewer some → Stays
 note_still some fewer others more less stays note within =
     if_weaker (λ s. IsWithin some others s.item) (λ s. IsWithin fewer more s.item) note.slot (λ s. within_still s.item some fewer others more less stays) within
 
--- one start and one type, by their texts
+-- the same start and the same type, by their texts
 active_same : (start s : List ℕ) (kind k : RelationType) (row : Row) → (bytes_eq start s && is_same_type kind k) ≡ true → is_active_of start kind row ≡ is_active_of s k row
 unfolding is_active_of
 active_same start s kind k row t =
@@ -139,7 +139,7 @@ module _ (parts : Parts) (are : AreParts parts) where
       same_key : (a i : List ℕ) → one_in (noted_holder newer a i) ≡ one_in (noted_holder parts.holders a i)
       same_key a i = ap one_in (changed a i) ∙ dropped_still (bytes_eq authority a && bytes_eq id i) (noted_holder parts.holders a i)
 
-      -- a key under which no LEI stood was dropped
+      -- a key that had no LEI was dropped
       pub dropped_key : AreParts after
       dropped_key = record {
         kept = are.kept;
@@ -177,7 +177,7 @@ module _ (parts : Parts) (are : AreParts parts) where
     behind = record parts { ends = later }
 
     module _ (changed : (s : List ℕ) (k : RelationType) → noted_end later s k ≡ cond (bytes_eq start s && is_same_type kind k) (freed (noted_end parts.ends s k)) (noted_end parts.ends s k)) where
-      -- a start and a type of which no relationship is active were freed
+      -- a start and a type that have no active relationship were freed
       pub freed_start : None ≡ active_of (rows parts.cells) start kind → AreParts behind
       freed_start none = record {
         kept = are.kept;
@@ -215,7 +215,7 @@ module _ (parts : Parts) (are : AreParts parts) where
       same_start : (s : List ℕ) (k : RelationType) → one_in (noted_end later s k) ≡ one_in (noted_end parts.ends s k)
       same_start s k = ap one_in (changed s k) ∙ dropped_still (bytes_eq start s && is_same_type kind k) (noted_end parts.ends s k)
 
-      -- a start and a type under which no end stood were dropped
+      -- a start and a type that had no end were dropped
       pub dropped_start : AreParts behind
       dropped_start = record {
         kept = are.kept;
@@ -244,7 +244,7 @@ pub own_start : (row : Row) (start : List ℕ) (kind : RelationType) → start �
 own_start row start kind starts kinds active s k =
     active-own row s k active ∙ (λ j. bytes_eq (sym starts j) s && bytes_eq (relation_type_text (sym kinds j)) (relation_type_text k))
 
--- a start and a type of which some relationship is active
+-- a start and a type that have an active relationship
 pub active_start_left : (parts : Parts) (start : List ℕ) (kind : RelationType) (row : Row) → ((s : List ℕ) (k : RelationType) → is_active_of s k row ≡ (bytes_eq start s && is_same_type kind k))
     → is_some (active_of (rows parts.cells) start kind) ≡ true → IsWithin (taken parts) (held_by (rows parts.cells)) (Some (Item.Relation row))
 active_start_left parts start kind row own some s k active is =

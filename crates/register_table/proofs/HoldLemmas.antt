@@ -1,4 +1,4 @@
--- Indexes after a LEI was put under a key that nobody holds.
+-- Indexes after an LEI was put under a key that nobody holds.
 use Rattle.std.specs.Prelude.{◌≡◌, ℕ, zero, suc, ◌<◌, Bool, true, false, ◌&&◌, cond, List, [], ◌∷◌, get_or, length, map, Option, Some, None, IfSome, is_some}
 use Rattle.std.specs.List.{AllByRecursion}
 use Rattle.std.specs.Str.{bytes_eq}
@@ -21,7 +21,7 @@ use Rattle.register_table.proofs.IndexLemmas.{one_in}
 use Rattle.register_table.specs.Parts.{AreParts, AreUndoable, CanBeUndone, IsMarked, IsNoteOf, Stays, note_of, noted, taken}
 use Rattle.register_table.proofs.NoteLemmas.{each-still}
 
--- ---- each of a list
+-- ---- each member of a list
 
 pub all_at : {X : Type 0} (P : X → Type 0) (xs : List X) (place : ℕ) (d : X) → AllByRecursion P xs → place < length xs → P (get_or xs place d)
 all_at P [] place d all inside = absurd (omega (arith, inside))
@@ -67,7 +67,7 @@ some_still false x o is = is
 module _ (parts : Parts) where
   -- ---- by authority and id
 
-  -- a key of a record under which something stands needs no place
+  -- a key of a record that the index has isn't new
   pub has_place : (row : Row) → IsMarked (noted parts) (Some (Item.Record row)) → HoldsNewKey row parts.holders → ⊥
   has_place row marked new = true≢false (sym (marked new.authority new.id new.held) ∙ ap is_some new.none)
 
@@ -79,7 +79,7 @@ module _ (parts : Parts) where
         let q = bytes_same id i (second_true _ _ t) in
         λ j. holder_in parts.holders (sym p j) (sym q j)
 
-    -- a LEI stands there
+    -- the key has an LEI
     pub key_taken : is_some (holder_in parts.holders authority id) ≡ true → IsMarked (taken parts) (Some (Item.Record row))
     key_taken some a i held = ap is_some (own_key a i held) ∙ some
 
@@ -110,7 +110,7 @@ module _ (parts : Parts) where
 
   -- ---- by start and type
 
-  -- a start and a type under which something stands need no place
+  -- a start and a type that the index has aren't new
   pub has_start : (row : Row) → IsMarked (noted parts) (Some (Item.Relation row)) → HasNewEnd row parts.ends → ⊥
   has_start row marked new = true≢false (sym (marked new.start new.kind new.active) ∙ ap is_some new.none)
 
@@ -122,7 +122,7 @@ module _ (parts : Parts) where
         let q = bytes_same (relation_type_text kind) (relation_type_text k) (second_true _ _ t) in
         λ j. one_in (end_under parts.ends.map (sym p j) (sym q j))
 
-    -- an end stands there
+    -- the start and the type have an end
     pub start_taken : is_some (end_in_index parts.ends start kind) ≡ true → IsMarked (taken parts) (Some (Item.Relation row))
     start_taken some s k active = ap is_some (own_start s k active) ∙ some
 

@@ -46,7 +46,7 @@ module _ {Y Z : Type 0} where
   module _ (old new : BTreeMap (String Z) (Ids Y)) (authority : List ℕ) (was : Option (Ids Y)) (ids : Ids Y)
       (before : get_by_text old authority ≡ was)
       (updates : (a : List ℕ) → get_by_text new a ≡ cond (bytes_eq authority a) (Some ids) (get_by_text old a)) where
-    -- what stands under an id of an authority was changed
+    -- what is under an id of an authority was changed
     pub lei_under-changed : (id : List ℕ) (change : Option (Option (List ℕ)) → Option (Option (List ℕ)))
         → ((i : List ℕ) → get_by_text ids i ≡ cond (bytes_eq id i) (change (option_and_then (λ ids. get_by_text ids i) was)) (option_and_then (λ ids. get_by_text ids i) was))
         → (a i : List ℕ) → lei_under new a i ≡ cond (bytes_eq authority a && bytes_eq id i) (change (lei_under old a i)) (lei_under old a i)
@@ -59,7 +59,7 @@ module _ {Y Z : Type 0} where
           | false ↦ λ _. refl
         ] refl
 
-    -- nothing was
+    -- nothing was changed
     pub lei_under-same : ((i : List ℕ) → get_by_text ids i ≡ option_and_then (λ ids. get_by_text ids i) was) → (a i : List ℕ) → lei_under new a i ≡ lei_under old a i
     lei_under-same same a i =
         ap (option_and_then (λ ids. get_by_text ids i)) (updates a)
@@ -74,7 +74,7 @@ module _ {Y Z : Type 0} where
         ap (option_and_then (λ ids. get_by_text ids i)) (updates authority ∙ ap (λ b. cond b (Some ids) (get_by_text old authority)) (bytes_itself authority))
         ∙ text_at-empty ids empty i
 
-  -- nothing stands under an authority that isn't there
+  -- nothing is under an authority that isn't there
   pub none_there : (map : BTreeMap (String Z) (Ids Y)) (authority id : List ℕ) (change : Option (Option (List ℕ)) → Option (Option (List ℕ)))
       → get_by_text map authority ≡ None → change None ≡ None
       → (a i : List ℕ) → lei_under map a i ≡ cond (bytes_eq authority a && bytes_eq id i) (change (lei_under map a i)) (lei_under map a i)
@@ -86,7 +86,7 @@ module _ {Y Z : Type 0} where
         | false ↦ λ _. refl
       ] refl
 
-  -- an authority without ids is taken out
+  -- an authority without ids is removed
   pub same_without : (old new : BTreeMap (String Z) (Ids Y)) (authority : List ℕ) → ((i : List ℕ) → lei_under old authority i ≡ None)
       → ((a : List ℕ) → get_by_text new a ≡ cond (bytes_eq authority a) None (get_by_text old a)) → (a i : List ℕ) → lei_under new a i ≡ lei_under old a i
   same_without old new authority none updates a i =
@@ -96,7 +96,7 @@ module _ {Y Z : Type 0} where
         | false ↦ λ _. refl
       ] refl
 
--- ---- what stands under a key that is freed or dropped
+-- ---- what is under a key that is freed or dropped
 
 abbrev pub Noted : Type 0
 Noted = Option (Option (List ℕ))
@@ -107,7 +107,7 @@ one_in = option_and_then (λ noted. noted)
 pub freed_there : (o : Noted) (x : Option (List ℕ)) → o ≡ Some x → freed o ≡ Some None
 freed_there o x is = ap freed is
 
--- a key under which something stands is freed
+-- a key that the index has is freed
 pub freed_when : (b : Bool) (o : Noted) (x : Option (List ℕ)) → (b ≡ true → o ≡ Some x) → cond b (Some None) o ≡ cond b (freed o) o
 freed_when true o x is = sym (freed_there o x (is refl))
 freed_when false o x is = refl
@@ -117,7 +117,7 @@ dropped_none None is = refl
 dropped_none (Some None) is = refl
 dropped_none (Some (Some lei)) is = absurd (some_apart lei is)
 
--- a key under which no LEI stands is dropped
+-- a key without an LEI is dropped
 pub dropped_when : (b : Bool) (o : Noted) → (b ≡ true → one_in o ≡ None) → cond b None o ≡ cond b (dropped o) o
 dropped_when true o none = sym (dropped_none o (none refl))
 dropped_when false o none = refl
@@ -127,7 +127,7 @@ dropped_some None lei is = refl
 dropped_some (Some None) lei is = absurd (some_apart lei (sym is))
 dropped_some (Some (Some other)) lei is = refl
 
--- a LEI that stands there still does
+-- an LEI under the key is still there
 pub dropped_one : (o : Noted) → one_in (dropped o) ≡ one_in o
 dropped_one None = refl
 dropped_one (Some None) = refl
@@ -157,7 +157,7 @@ pub held_noted : (row : Row) (key : List ℕ × List ℕ) (lei : List ℕ) (old 
 held_noted row key lei old new held same noted a i =
     ap one_in (noted a i) ∙ (one_of (bytes_eq key.0 a && bytes_eq key.1 i) lei (old a i) ∙ (λ j. cond (sym (held a i) j) (Some (same j)) (one_in (old a i))))
 
--- a record that holds no key leaves what was noted
+-- a record that holds no key leaves what was noted unchanged
 pub unheld : (row : Row) (o : List ℕ → List ℕ → Option (List ℕ)) → ((a i : List ℕ) → holds a i row ≡ false) → (a i : List ℕ) → o a i ≡ cond (holds a i row) (Some (lei_in row)) (o a i)
 unheld row o never a i = sym (ap (λ b. cond b (Some (lei_in row)) (o a i)) (never a i))
 
@@ -165,7 +165,7 @@ some_put : (b : Bool) (x : Option (List ℕ)) (o : Noted) → is_some o ≡ true
 some_put true x o is = refl
 some_put false x o is = is
 
--- what stood under a key was noted anew, or stayed
+-- a key that the index had is noted again, or stays
 pub noted_stays : {X E C : Type 0} (result : Result X E) (test : C → Bool) (x : C → Option (List ℕ)) (old new : C → Noted)
     → OnOk result ((c : C) → new c ≡ cond (test c) (Some (x c)) (old c)) → OnErr result ((c : C) → new c ≡ old c)
     → (c : C) → is_some (old c) ≡ true → is_some (new c) ≡ true
@@ -211,13 +211,13 @@ module _ (old new : BTreeMap (List ℕ × Bor (List ℕ)) (Option (List ℕ))) (
       → one_in (end_under new start (relation_type_text kind)) ≡ cond (is_active_of start kind row) (Some (end_in row)) (one_in (end_under old start (relation_type_text kind)))
   end_noted updates start kind = ap one_in (end_under-insert updates start kind) ∙ one_of (is_active_of start kind row) (end_in row) (end_under old start (relation_type_text kind))
 
-  -- and what stood anywhere still does
+  -- and the index still has each start and type that it had
   pub end_stays : Updates pair_cmp old new key (Some (Some end)) → (start : List ℕ) (kind : RelationType)
       → is_some (end_under old start (relation_type_text kind)) ≡ true → is_some (end_under new start (relation_type_text kind)) ≡ true
   end_stays updates start kind is =
       ap is_some (end_under-insert updates start kind) ∙ some_put (is_active_of start kind row) (Some (end_in row)) (end_under old start (relation_type_text kind)) is
 
-  -- and where none was before, there is a start and a type of which it is the active one
+  -- the relationship is the active one of its own start and type
   pub own_end : is_active_of (start_in row) (kind_in row) row ≡ true
   own_end = active-own row (start_in row) (kind_in row) active ∙ both_true _ _ (bytes_itself (start_in row)) (bytes_itself (relation_type_text (kind_in row)))
 

@@ -1,4 +1,4 @@
--- Notes of writes: what one more note comes to, and what is left when the last was put back.
+-- Notes of writes: the effect of one more note, and what is left after the last one was put back.
 use Rattle.std.specs.Prelude.{◌≡◌, ℕ, suc, ◌+◌, ◌-◌, ◌<◌, ◌≤◌, true, List, [], ◌∷◌, ◌++◌, drop, get_or, length, map, take, Option, Some, None, IfSome, IsSome, is_some, option_and_then, option_map}
 use Rattle.std.specs.FinMap.{get, insert}
 use Rattle.std.specs.List.{AllByRecursion}
@@ -19,7 +19,7 @@ use Rattle.register_table.specs.Parts.{AreParts, AreUndoable, CanBeUndone, IsMar
 use Rattle.register_table.specs.Undos.{AreOwn, IsOwn, Notes, StaysKept, WriteList, cell_of, put_back, touch, touch_all, undone}
 use Rattle.register_table.proofs.RowsLemmas.{cell_again, cell_there, record_at, relation_at, rows-touch}
 
--- ---- one note more, and one less
+-- ---- one more note, and one fewer
 
 -- the last note is put back first
 pub undone-push : (notes : Notes) (note : RowKey × Option Cell) (held : Held) → undone (notes ++ note ∷ []) held ≡ undone notes (put_back held note)
@@ -100,14 +100,14 @@ one_there : {X : Type 0} (o : Option (Option X)) → is_some (option_and_then (�
 one_there None is = is
 one_there (Some x) is = refl
 
--- where a LEI stands, something does
+-- if a key has an LEI, the index has the key
 pub taken-noted : (parts : Parts) → Stays (taken parts) (noted parts)
 taken-noted parts = record {
   by_key = λ a i. one_there (noted_holder parts.holders a i);
   by_start = λ s kind. one_there (noted_end parts.ends s kind);
 }
 
--- so notes whose keys are all taken can be put back
+-- so notes whose keys all have an LEI can be put back
 pub can_undo : (notes : List Note) (parts : Parts) → CanBeUndone (taken parts) notes parts.cells → CanBeUndone (noted parts) notes parts.cells
 can_undo notes parts can = can-still notes (taken parts) (noted parts) parts.cells parts.cells (taken-noted parts) refl can
 
@@ -219,7 +219,7 @@ others_own rest write more is own = (subst AreOwn is own).1
 pub first_kept : (rest : WriteList) (write : RowKey × Option Item) (more : WriteList) (table : Table) → rest ≡ write ∷ more → StaysKept rest table → IsKept (put_write table write)
 first_kept rest write more table is kept = (subst (λ writes. StaysKept writes table) is kept).0
 
--- a slot of a write
+-- the item of a write is under its own key
 own_slot : (key : RowKey) (item : Option Item) → IsOwn (key, item) → IsItemOf key item
 own_slot key None own = tt
 own_slot key (Some item) own = ap cell_key own.0

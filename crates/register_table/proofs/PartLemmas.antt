@@ -1,4 +1,4 @@
--- Indexes over a table stay its own where a cell is put, and the cells stay kept.
+-- When a cell is put, the indexes stay those of the table, and the cells can still be kept.
 use Rattle.std.specs.Prelude.{◌≡◌, ℕ, Bool, true, false, cond, List, [], ◌∷◌, Option, Some, None, Result, Ok, Err, OnOk, OnErr}
 use Rattle.std.specs.FinMap.{get, insert, remove, get-insert}
 use Rattle.std.specs.Ordering.{eq_by_cmp}
@@ -100,7 +100,7 @@ pub same_end : (a b c d e f : List ℕ) → (a ∷ b ∷ c ∷ []) ≡ (d ∷ e 
 unfolding third_text
 same_end a b c d e f is = ap third_text is
 
--- the indexes with an item noted are those of the table before and behind its put
+-- the indexes with an item noted are those of the table before and after it is put
 pub record Both (before after : Table) (holders : Holding) (ends : Ending) : Type 0 where
   pub still : AreIndexes before holders ends
   pub behind : AreIndexes after holders ends
@@ -113,7 +113,7 @@ module _ (table : Table) (holders newer : Holding) (ends later : Ending) (sound 
       by_start = λ s kind key row at passes. same_ends s kind ∙ indexes.by_start s kind key row at passes;
     }
 
-    -- a key whose row is taken out, or whose row is of another kind
+    -- a key whose row is removed, or whose row is of another kind
     pub same_without : (key : RowKey) → AreIndexes (row_under table key None) newer later
     same_without (RowKey.Rec lei) = record {
       by_key = λ a i key row at passes. same_holders a i ∙ indexes.by_key a i key row (removed table.records (record_key lei) key row at) passes;
@@ -168,7 +168,7 @@ module _ (table : Table) (holders newer : Holding) (ends later : Ending) (sound 
           };
         }
 
--- ---- the same of cells
+-- ---- the same for cells
 
 module _ (held : Held) (holders newer : Holding) (ends later : Ending) (kept : IsKept (rows held)) (indexes : AreIndexes (rows held) holders ends) where
   under : (key own : RowKey) (new : Cell) → cell_key key ≡ cell_key own → rows (insert held (cell_key key) new) ≡ row_under (rows held) own new.row
@@ -201,7 +201,7 @@ module _ (held : Held) (holders newer : Holding) (ends later : Ending) (kept : I
   without key noted ended =
       subst (λ t. AreIndexes t newer later) (sym (rows-with_cell held key None)) (same_without (rows held) holders newer ends later kept.sound indexes noted ended key)
 
--- what is kept after a cell was put, or was not
+-- the cells can be kept and the indexes are theirs, whether a cell was put or not
 pub parts_put : {X E : Type 0} (result : Result X E) (old new : Held) (holders : Holding) (ends : Ending) (key : KeyTexts) (cell : Cell)
     → OnOk result (new ≡ insert old key cell) → OnErr result (new ≡ old) → IsKept (rows old) → IsKept (rows (insert old key cell))
     → Both (rows old) (rows (insert old key cell)) holders ends → IsKept (rows new) × AreIndexes (rows new) holders ends

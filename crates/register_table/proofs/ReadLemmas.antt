@@ -1,4 +1,4 @@
--- What the cells of a table and the indexes over them tell of its rows.
+-- What the cells of a table and the indexes over them say about its rows.
 use Rattle.std.specs.Prelude.{◌≡◌, ℕ, true, false, cond, List, [], ◌∷◌, Option, Some, None, is_some, option_map}
 use Rattle.std.specs.FinMap.{get}
 use Rattle.std.specs.Str.{bytes_eq}
@@ -28,7 +28,7 @@ first_text : KeyTexts → List ℕ
 first_text [] = []
 first_text (text ∷ texts) = text
 
--- keys of two kinds are apart
+-- keys of different kinds differ
 apart : (kind : List ℕ) (a b : KeyTexts) → a ≡ b → bytes_eq kind (first_text a) ≡ true → bytes_eq kind (first_text b) ≡ false → ⊥
 apart kind a b same here there = true≢false (sym here ∙ (ap (λ k. bytes_eq kind (first_text k)) same ∙ there))
 
@@ -74,7 +74,7 @@ module _ (table : Table) (sound : IsSound table) (holders : List ℕ → List �
     none_holds : ((key : KeyTexts) (row : Row) → get table.records key ≡ Some row → holds a i row ≡ true → ⊥) → None ≡ holder_of table a i
     none_holds never = sym (ap (option_map lei_in) (none_found table.records (holds a i) never))
 
-    -- nobody was noted
+    -- nobody is noted under the key
     pub holder_none : None ≡ holders a i → None ≡ holder_of table a i
     holder_none none = none_holds (λ key row at passes. some_apart (lei_in row) (sym (indexes.by_key a i key row at passes) ∙ sym none))
 
@@ -97,7 +97,7 @@ module _ (table : Table) (sound : IsSound table) (holders : List ℕ → List �
                 true≢false (sym passes ∙ (ap (holds a i) (sym one) ∙ f)))
           ] refl
 
-      -- who was noted holds the key, or nobody does
+      -- the record that is noted holds the key, or nobody does
       pub holder_noted : cond (row_holds a i (row_at table lei)) (Some lei) None ≡ holder_of table a i
       holder_noted = seen (row_at table lei) refl
 
@@ -122,7 +122,7 @@ module _ (table : Table) (sound : IsSound table) (holders : List ℕ → List �
     second_of (a ∷ b ∷ rest) = b
     second_of other = []
 
-    -- a relationship under the key of the start and the type that is active is so of them
+    -- an active relationship under a key with this start and type is active for them
     of_key : (end : List ℕ) (row : Row) → relation_key start kind end ≡ relation_key_in row → is_active row ≡ true → is_active_of start kind row ≡ true
     unfolding is_active_of first_of second_of
     of_key end row same active =

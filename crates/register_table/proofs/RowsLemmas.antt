@@ -114,7 +114,7 @@ module _ (kind : List ℕ) (held : Held) (key : KeyTexts) (new : Option Cell) wh
       ∙ (ap (λ b. cond (b && eq_by_cmp key_cmp q key) (row_in new) (row_in (get held (kind ∷ q)))) apart
       ∙ sym (at_kind kind held q))))
 
--- the rows behind a cell that was put, or taken out
+-- the rows after a cell was put or removed
 pub rows-with_cell : (held : Held) (key : RowKey) (new : Option Cell) → rows (with_cell held (cell_key key) new) ≡ row_under (rows held) key (row_in new)
 unfolding rows
 rows-with_cell held (RowKey.Rec lei) new = λ i. record {
@@ -147,7 +147,7 @@ write_under table (RowKey.Rec lei, None) own = absurd own
 write_under table (RowKey.Rel start kind end, None) own = absurd own
 write_under table (RowKey.Exc lei category, None) own = refl
 
--- the rows behind a write are those of the table behind it
+-- the rows of the cells after a write are the rows of the cells before it with the write put
 pub rows-touch : (entry : ℕ) (held : Held) (write : RowKey × Option Item) → IsOwn write → rows (touch entry held write) ≡ put_write (rows held) write
 rows-touch entry held write own = rows-with_cell held write.0 (Some (record { entry = entry; row = option_map row_of write.1 })) ∙ sym (write_under (rows held) write own)
 
@@ -210,7 +210,7 @@ few_rows held = record {
   exceptions = len-rows_of exception_kind (entries held);
 }
 
--- the counts after a cell was put, or taken out
+-- the counts after a cell was put or removed
 pub counted : (held : Held) (key : RowKey) (new : Option Cell) (counts later : Counts) → AreCounts counts (rows held)
     → AreStepped key (is_some (row_in (get held (cell_key key)))) (is_some (row_in new)) counts later → AreCounts later (rows (with_cell held (cell_key key) new))
 counted held (RowKey.Rec lei) new counts later are stepped = subst (AreCounts later) (sym (rows-with_cell held (RowKey.Rec lei) new)) (record {

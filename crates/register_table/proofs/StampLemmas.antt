@@ -31,7 +31,7 @@ by_order a b P less more = elim (ltb a b) as (λ t. ltb a b ≡ t → P) [
 
 -- ---- which stamps are looked at
 
--- a stamp of a number between two others stands between the places of these
+-- a stamp with a number greater than `after` and at most `upto` is between their partition points
 pub whole : (stamps : List Stamp) (after upto low high : ℕ) → high ≤ length stamps
     → IsPartitionPoint (λ s. leb s.entry upto ≡ true) (λ s. leb s.entry upto ≡ false) stamps high
     → IsPartitionPoint (λ s. leb s.entry after ≡ true) (λ s. leb s.entry after ≡ false) (take high stamps) low
@@ -61,7 +61,7 @@ whole stamps after upto low high fits ends begins entry key more most none k d s
     let own = is.0 in
     absurd (omega (arith, big, own, most)))
 
--- and no other stands there
+-- and no other stamp is there
 pub ranged : (stamps : List Stamp) (after upto low high : ℕ) → high ≤ length stamps
     → IsPartitionPoint (λ s. leb s.entry upto ≡ true) (λ s. leb s.entry upto ≡ false) stamps high
     → IsPartitionPoint (λ s. leb s.entry after ≡ true) (λ s. leb s.entry after ≡ false) (take high stamps) low
@@ -79,9 +79,9 @@ ranged stamps after upto low high fits ends begins k d less =
     let most = leb-true (get_or stamps (low + k) d).entry upto (ends.0 (low + k) d (omega arith) (omega (arith, less, size, len))) in
     subst (λ (s : Stamp). (after < s.entry) × (s.entry ≤ upto)) (sym there) (subst (λ (s : Stamp). after < s.entry) same more, most)
 
--- ---- stamps that are put
+-- ---- stamps that are appended
 
--- cells of lower numbers have their stamps before the place of a number
+-- cells with lower numbers have their stamps before the partition point of a number
 pub stamped_below : (stamps : List Stamp) (entry below : ℕ) → below ≤ length stamps
     → IsPartitionPoint (λ s. ltb s.entry entry ≡ true) (λ s. ltb s.entry entry ≡ false) stamps below
     → (held : Held) → IsLater entry held → AreStamped stamps held → AreStamped (take below stamps) held
@@ -97,7 +97,7 @@ stamped_below stamps entry below fits point held later stamped key cell at none 
     let small = later key cell at in
     absurd (omega (arith, big, small, own))))
 
--- what stands before it has lower numbers
+-- the stamps before it have lower numbers
 pub lower : (stamps : List Stamp) (entry below : ℕ) → below ≤ length stamps
     → IsPartitionPoint (λ s. ltb s.entry entry ≡ true) (λ s. ltb s.entry entry ≡ false) stamps below
     → All (λ (s : Stamp). s.entry < entry) (take below stamps)
@@ -106,7 +106,7 @@ lower stamps entry below fits point k d less =
     let before : k < below = omega (arith, len, less) in
     subst (λ (s : Stamp). s.entry < entry) (sym (get_or-take below stamps k d before)) (ltb-true (get_or stamps k d).entry entry (point.0 k d (omega arith) before))
 
--- no stamp before one more that is put
+-- if there is no such stamp after one more is appended, there was none before
 fewer : (stamps : List Stamp) (stamp : Stamp) (entry : ℕ) (key : KeyTexts) → NoneFrom 0 (stamps ++ stamp ∷ []) entry key → NoneFrom 0 stamps entry key
 fewer stamps stamp entry key none k d start less is =
     let len = length_push stamps stamp in
@@ -118,13 +118,13 @@ has_more stamps stamp entry key has none = has (fewer stamps stamp entry key non
 pub stamped_more : (stamps : List Stamp) (stamp : Stamp) (held : Held) → AreStamped stamps held → AreStamped (stamps ++ stamp ∷ []) held
 stamped_more stamps stamp held stamped key cell at = has_more stamps stamp cell.entry key (stamped key cell at)
 
--- and it is there itself
+-- the stamp that is appended is there
 pub has_pushed : (stamps : List Stamp) (stamp : Stamp) → HasStamp (stamps ++ stamp ∷ []) stamp.entry (cell_key stamp.key)
 has_pushed stamps stamp none =
     let len = length_push stamps stamp in
     none (length stamps) stamp (omega arith) (omega (arith, len)) (subst (IsStampOf stamp.entry (cell_key stamp.key)) (sym (get_or_push stamps stamp stamp (length stamps) refl)) (refl, refl))
 
--- the keys of the writes so far have stamps, and so has that of the next
+-- the keys of the writes so far have stamps, and so does that of the next
 pub each_more : (writes : WriteList) (stamps : List Stamp) (entry place : ℕ) (write : RowKey × Option Item) → place < length writes → write ≡ get_or writes place write
     → ((k : ℕ) (d : RowKey × Option Item) → k < place → HasStamp stamps entry (cell_key (get_or writes k d).0))
     → (k : ℕ) (d : RowKey × Option Item) → k < place + 1 → HasStamp (stamps ++ record { entry = entry; key = write.0 } ∷ []) entry (cell_key (get_or writes k d).0)
@@ -143,7 +143,7 @@ at_touch true entry new old cell P at here there =
     subst P is (here refl)
 at_touch false entry new old cell P at here there = there at
 
--- cells that are touched are stamped, where each key that is written is
+-- the cells after writes are stamped, if each key that is written is
 pub stamped_all : (stamps : List Stamp) (entry : ℕ) (writes : WriteList) (held : Held) → AreStamped stamps held
     → All (λ write. HasStamp stamps entry (cell_key write.0)) writes → AreStamped stamps (touch_all entry writes held)
 stamped_all stamps entry [] held stamped each = stamped
@@ -158,7 +158,7 @@ stamped_all stamps entry (write ∷ writes) held stamped each =
 
 -- ---- cells that are found
 
--- these cells are among those
+-- the cells in `found` are among those in `held`
 abbrev pub AreAmong : Held → Held → Type 0
 AreAmong held found = (key : KeyTexts) (cell : Cell) → get found key ≡ Some cell → get held key ≡ Some cell
 
@@ -166,11 +166,11 @@ by_cell : (o : Option Cell) (P : Type 0) → ((cell : Cell) → o ≡ Some cell 
 by_cell (Some cell) P some none = some cell refl
 by_cell None P some none = none refl
 
--- each of these cells is touched
+-- each cell in `found` is touched
 abbrev pub AreWithin : ℕ → ℕ → Held → Type 0
 AreWithin after upto found = (key : KeyTexts) (cell : Cell) → get found key ≡ Some cell → is_touched after upto cell ≡ true
 
--- a cell that is found is put among those that were
+-- with one more cell that is held, the cells that were found are still among those that are held
 pub among_more : (held found : Held) (key : KeyTexts) (cell : Cell) → get held key ≡ Some cell → AreAmong held found → AreAmong held (insert found key cell)
 among_more held found key cell at among q other is =
     at_touch (eq_by_cmp key_cmp q key) 0 cell (get found q) other (λ c. get held q ≡ Some c)
@@ -182,7 +182,7 @@ within_more after upto found key cell passes within q other is =
     at_touch (eq_by_cmp key_cmp q key) 0 cell (get found q) other (λ c. is_touched after upto c ≡ true)
     (sym (get-insert keys_total found key cell q) ∙ is) (λ _. passes) (λ there. within q other there)
 
--- those that were found still are
+-- the cells that were found before are still found
 pub found_still : (held found : Held) (key : KeyTexts) (cell : Cell) → get held key ≡ Some cell → AreAmong held found → AreAmong (insert found key cell) found
 found_still held found key cell at among q other is =
     elim (eq_by_cmp key_cmp q key) as (λ b. eq_by_cmp key_cmp q key ≡ b → get (insert found key cell) q ≡ Some other) [
@@ -193,7 +193,7 @@ found_still held found key cell at among q other is =
 pub found_now : (found : Held) (key : KeyTexts) (cell : Cell) → get (insert found key cell) key ≡ Some cell
 found_now found key cell = get-insert keys_total found key cell key ∙ ap (λ b. cond b (Some cell) (get found key)) (key_itself key)
 
--- each cell of a number asked for whose stamps all stand before a place was found
+-- each touched cell whose stamps are all before a position was found
 abbrev pub AreFound : ℕ → ℕ → Held → List Stamp → ℕ → Held → Type 0
 AreFound after upto held stamps place found = (key : KeyTexts) (cell : Cell) → get held key ≡ Some cell → is_touched after upto cell ≡ true
     → HasStamp stamps cell.entry key → NoneFrom place stamps cell.entry key → get found key ≡ Some cell
@@ -206,7 +206,7 @@ pub all_found : (after upto : ℕ) (held : Held) (stamps : List Stamp) (place : 
 all_found after upto held stamps place found end each key cell at passes has =
     each key cell at passes has (λ k d from less is. absurd (omega (arith, end, from, less)))
 
--- what was found before a key was asked for, and after
+-- what was found before a key was looked up, and after
 pub record Asked (after upto : ℕ) (held : Held) (key : KeyTexts) (found more : Held) : Type 0 where
   pub still : AreAmong more found
   pub among : AreAmong held more
@@ -231,7 +231,7 @@ asked_out after upto held key found more same among within none = record {
   here = λ cell at passes. absurd (none cell at passes);
 }
 
--- nothing is held there that is asked for
+-- no touched cell is held under the key
 pub missed : (after upto : ℕ) (held : Held) (key : KeyTexts) → get held key ≡ None → (cell : Cell) → get held key ≡ Some cell → is_touched after upto cell ≡ true → ⊥
 missed after upto held key none cell at passes = some_apart cell (sym at ∙ none)
 
@@ -342,17 +342,17 @@ module _ (p : Cell → Bool) where
       (λ missing. none_passes (get held key) (get found key) missing (λ cell at passes. each key cell at passes))
       ∙ (ap (only p) (get-entries held key) ∙ sym (find_passing key (entries held) (entries_sorted held)))))
 
--- cells that are held and touched, with none of these left out, are all that are
+-- cells that are held and touched, with none of these left out, are all touched cells
 pub all_touched : (after upto : ℕ) (held found : Held) → AreAmong held found → AreWithin after upto found
     → ((key : KeyTexts) (cell : Cell) → get held key ≡ Some cell → is_touched after upto cell ≡ true → get found key ≡ Some cell)
     → entries found ≡ touched after upto held
 all_touched after upto held found among within each = all_passing (is_touched after upto) held found among within each
 
--- what was touched stands in the order of keys
+-- what was touched is in the order of keys
 pub touched-sorted : (after upto : ℕ) (held : Held) → T (is_sorted key_cmp (touched after upto held))
 touched-sorted after upto held = sorted_passing (is_touched after upto) (entries held) (entries_sorted held)
 
--- under a key is found its cell, where that was touched
+-- what is found under a key is its cell, if that was touched
 pub touched-find : (after upto : ℕ) (held : Held) (key : KeyTexts) → find key_cmp key (touched after upto held) ≡ only (is_touched after upto) (get held key)
 touched-find after upto held key =
     find_passing (is_touched after upto) key (entries held) (entries_sorted held) ∙ ap (only (is_touched after upto)) (sym (get-entries held key))

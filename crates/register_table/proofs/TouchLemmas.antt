@@ -1,4 +1,4 @@
--- The slots that are told as touched: their order, and how they are lent.
+-- The slots that are listed as touched: their order, and how they are borrowed.
 use Rattle.std.specs.Prelude.{◌≡◌, Bool, true, false, ◌&&◌, List, [], ◌∷◌, map}
 use Rattle.std.specs.BTreeMap.{insert_entry}
 use Rattle.std.specs.Borrow.{Bor}
@@ -34,7 +34,7 @@ unfolding IsStrictlySortedBy
 sorted_texts [] sorted = tt
 sorted_texts (e ∷ slots) sorted = both _ _ (below e.0 slots sorted.0) (sorted_texts slots sorted.1)
 
--- slots that rise are the entries of their cells
+-- slots whose keys rise are the entries of their cells
 pub entries-held_in : (slots : List (TextKey × Slot)) → IsStrictlySortedBy text_cmp (keys_of slots) → entries (held_in slots) ≡ map under_texts slots
 unfolding held_in
 entries-held_in slots sorted =
@@ -44,7 +44,7 @@ entries-held_in slots sorted =
     (λ q. get-from_entries keys_total es q ∙ sym (get-from_sorted key_cmp es q rises)) in
     ap entries same ∙ entries-from_sorted key_cmp es rises
 
--- ---- slots that are lent
+-- ---- borrowed slots
 
 pub rising-unlent : (slots : List (TextKey × Bor Slot)) → IsStrictlySortedBy text_cmp (keys_of slots) → IsStrictlySortedBy text_cmp (keys_of (unlent slots))
 rising-unlent slots sorted = subst (IsStrictlySortedBy text_cmp) (sym (keys_of-map_values (λ slot. slot.now) slots)) sorted

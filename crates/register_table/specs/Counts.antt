@@ -5,13 +5,13 @@ use Rattle.lei_records.specs.declared.view.RowKey.{RowKey}
 use Rattle.lei_records.specs.Tables.{Table}
 use Rattle.register_table.specs.declared.counts.Counts.{Counts}
 
--- A count after a key had a row or not, and has one or not.
+-- A count after a change under one key, which had a row or not, and now has one or not.
 abbrev pub step : Bool → Bool → ℕ → ℕ
 step false true count = count + 1
 step true false count = count - 1
 step was is count = count
 
--- The counts after a key had a row or not, and has one or not: that of its kind changes.
+-- The counts after such a change: only that of the key's kind changes.
 abbrev pub AreStepped : RowKey → Bool → Bool → Counts → Counts → Type 0
 AreStepped (RowKey.Rec lei) was is old new = (new.records ≡ step was is old.records)
     × ((new.relations ≡ old.relations) × (new.exceptions ≡ old.exceptions))
@@ -26,7 +26,7 @@ pub record AreCounts (counts : Counts) (table : Table) : Type 0 where
   pub relations : counts.relations ≡ len table.relations
   pub exceptions : counts.exceptions ≡ len table.exceptions
 
--- Each count can still rise by one.
+-- Each count can rise by one without overflow.
 pub record CanRise (counts : Counts) : Type 0 where
   pub records : counts.records + 1 < 2 ^ 64
   pub relations : counts.relations + 1 < 2 ^ 64

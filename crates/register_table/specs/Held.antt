@@ -16,7 +16,7 @@ pub record Cell : Type 0 where
   pub entry : ℕ
   pub row : Option Row
 
--- Cells under their keys, in the order of these. Each key that was ever touched has one.
+-- Cells under their keys, in the order of the keys. Each key that was ever touched has one.
 abbrev pub Held : Type 0
 Held = FinMap key_cmp Cell
 
@@ -32,7 +32,7 @@ relation_kind = 2 ∷ []
 abbrev pub exception_kind : Text
 exception_kind = 3 ∷ []
 
--- The key of a cell: its kind, and then the texts of the row's key.
+-- The key of a cell: its kind, followed by the texts of the row's key.
 abbrev pub cell_key : RowKey → KeyTexts
 cell_key (RowKey.Rec lei) = record_kind ∷ record_key lei
 cell_key (RowKey.Rel start kind end) = relation_kind ∷ relation_key start kind end
@@ -49,7 +49,7 @@ abbrev pub with_under : Rows → KeyTexts → Option Row → Rows
 with_under rows key (Some row) = insert rows key row
 with_under rows key None = remove rows key
 
--- Rows with that of a cell, where the cell is of this kind: it stands under the texts behind the kind.
+-- Rows with that of a cell, if the cell is of this kind. The row is put under the texts that follow the kind.
 abbrev pub with_cell_of : Text → Rows → KeyTexts → Option Row → Rows
 with_cell_of kind rows [] row = rows
 with_cell_of kind rows (first ∷ key) row = if bytes_eq first kind then with_under rows key row else rows
@@ -67,7 +67,7 @@ rows held = record {
   exceptions = rows_of exception_kind (entries held);
 }
 
--- ---- tables that are kept
+-- ---- tables that can be kept
 
 -- The table without rows.
 abbrev pub no_rows : Table
@@ -80,14 +80,14 @@ pub record IsKept (table : Table) : Type 0 where
 
 -- ---- what contracts see of a table
 
--- The cells that are held, and those before the last writes, where these can be taken back.
+-- The cells that are held, and those before the last writes, if these can be undone.
 pub record TableState : Type 0 where
   pub held : Held
   pub before : Option Held
 
 -- ---- how this is stored
 
--- a row is stored as its texts are, and a cell as the pair of its parts
+-- a row is stored as the list of its texts, and a cell as the pair of its parts
 abbrev cell_code : Coded Cell
 cell_code = code_by (ℕ × Option Row) (coded× coded_ℕ (coded_option (coded_list (coded_list coded_ℕ))))
     (λ cell. (cell.entry, cell.row)) (λ parts. record { entry = parts.0; row = parts.1 }) (λ _. refl)

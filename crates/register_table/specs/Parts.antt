@@ -19,21 +19,21 @@ use Rattle.register_table.specs.Held.{Cell, Held, IsKept, cell_key, rows}
 use Rattle.register_table.specs.Indexes.{HasNewEnd, HoldsNewKey, Marks, end_in_index, holder_in, noted_in, taken_in}
 use Rattle.register_table.specs.Undos.{Notes, put_back, undone}
 
--- ---- what is noted of an item
+-- ---- what is noted for an item
 
--- Who is noted under authority keys once an item is.
+-- The LEIs under authority keys after an item is noted.
 abbrev pub holder_after : Option Item → (Text → Text → Option Lei) → Text → Text → Option Lei
 holder_after (Some (Item.Record row)) before authority id =
     if holds authority id row then Some (lei_in row) else before authority id
 holder_after item before authority id = before authority id
 
--- Which ends are noted once an item is.
+-- The ends under starts and types after an item is noted.
 abbrev pub end_after : Option Item → (Lei → RelationType → Option Lei) → Lei → RelationType → Option Lei
 end_after (Some (Item.Relation row)) before start kind =
     if is_active_of start kind row then Some (end_in row) else before start kind
 end_after item before start kind = before start kind
 
--- These are the indexes with an item noted.
+-- The later indexes are the earlier ones with an item noted.
 pub record AreNoted (item : Option Item) (holders : AuthorityKeyIndex) (ends : Ends)
     (newer : AuthorityKeyIndex) (later : Ends) : Type 0 where
   pub by_key : (authority id : Text)
@@ -41,7 +41,7 @@ pub record AreNoted (item : Option Item) (holders : AuthorityKeyIndex) (ends : E
   pub by_start : (start : Lei) (kind : RelationType)
       → end_in_index later start kind ≡ end_after item (end_in_index ends) start kind
 
--- An item has a key under which nothing was noted.
+-- An item has a key that its index doesn't have.
 abbrev pub IsNew : Option Item → AuthorityKeyIndex → Ends → Type 0
 IsNew (Some (Item.Record row)) holders ends = HoldsNewKey row holders
 IsNew (Some (Item.Relation row)) holders ends = HasNewEnd row ends
@@ -56,7 +56,7 @@ IsMarked marks (Some (Item.Relation row)) =
     → marks.by_start start kind ≡ true
 IsMarked marks item = ⊤
 
--- Each key of an item that some have marked is marked by others, too.
+-- Each key of an item that is marked in `some` is also marked in `others`.
 abbrev pub IsWithin : Marks → Marks → Option Item → Type 0
 IsWithin some others (Some (Item.Record row)) =
     (authority id : Text) → holds authority id row ≡ true → some.by_key authority id ≡ true
@@ -66,7 +66,7 @@ IsWithin some others (Some (Item.Relation row)) =
     → others.by_start start kind ≡ true
 IsWithin some others item = ⊤
 
--- The same of the item of a note, if it has one.
+-- The same for the item of a note, if it has one.
 abbrev pub IsNoteWithin : Marks → Marks → Note → Type 0
 IsNoteWithin some others note = IfSome note.slot (λ slot. IsWithin some others slot.item)
 
@@ -77,7 +77,7 @@ held_by table = record {
   by_start = λ start kind. is_some (active_of table start kind);
 }
 
--- What was marked still is.
+-- What was marked before is still marked after.
 pub record Stays (before after : Marks) : Type 0 where
   pub by_key : (authority id : Text) → before.by_key authority id ≡ true → after.by_key authority id ≡ true
   pub by_start : (start : Lei) (kind : RelationType) → before.by_start start kind ≡ true
@@ -85,8 +85,8 @@ pub record Stays (before after : Marks) : Type 0 where
 
 -- ---- indexes over a table
 
--- Who holds an authority key is noted under it, and so is the end of an active relationship under its start and type.
--- What else is noted is of no account.
+-- The LEI of each record that holds an authority key is noted under it. The end of each active relationship is noted
+-- under its start and type. What else is noted doesn't matter.
 pub record AreIndexes (table : Table) (holders : Text → Text → Option Lei)
     (ends : Lei → RelationType → Option Lei) : Type 0 where
   pub by_key : (authority id : Text) (key : KeyTexts) (row : Row) → get table.records key ≡ Some row
@@ -95,7 +95,7 @@ pub record AreIndexes (table : Table) (holders : Text → Text → Option Lei)
       → get table.relations key ≡ Some row
       → is_active_of start kind row ≡ true → ends start kind ≡ Some (end_in row)
 
--- The cells can be kept, and the indexes are theirs.
+-- The cells can be kept, and the indexes are those of their rows.
 pub record AreParts (parts : Parts) : Type 0 where
   pub kept : IsKept (rows parts.cells)
   pub indexes : AreIndexes (rows parts.cells) (holder_in parts.holders) (end_in_index parts.ends)
@@ -106,26 +106,27 @@ pub record AreParts (parts : Parts) : Type 0 where
 abbrev pub note_of : Note → RowKey × Option Cell
 note_of note = (note.key, option_map cell_in note.slot)
 
--- What a note has is of its key, and each key of its item is marked.
+-- What a note has belongs to its key, and each key of its item is marked.
 pub record IsNoteOf (marks : Marks) (note : Note) : Type 0 where
   pub own : IfSome note.slot (IsOwnCell note.key)
   pub marked : IfSome note.slot (λ slot. IsMarked marks slot.item)
 
--- Each note can be put back from the last on: its key has a cell then, and the cells can be kept once it is put back.
+-- The notes can be put back from the last to the first. The key of each has a cell when it is put back, and the cells
+-- can be kept afterwards.
 abbrev pub AreUndoable : Notes → Held → Type 0
 AreUndoable [] held = ⊤
 AreUndoable (note ∷ notes) held = (IsSome (get (undone notes held) (cell_key note.0))
     × IsKept (rows (put_back (undone notes held) note))) × AreUndoable notes held
 
--- Notes can be put back into these cells, and each key of theirs is marked.
+-- Notes can be put back into these cells, and each key of their items is marked.
 pub record CanBeUndone (marks : Marks) (notes : List Note) (held : Held) : Type 0 where
   pub each : AllByRecursion (IsNoteOf marks) notes
   pub kept : AreUndoable (map note_of notes) held
 
--- The keys under which something stands in the indexes of these parts.
+-- The keys that the indexes of these parts have, with or without an LEI.
 abbrev pub noted : Parts → Marks
 noted parts = noted_in parts.holders parts.ends
 
--- The keys under which a LEI does.
+-- The keys that have an LEI in the indexes of these parts.
 abbrev pub taken : Parts → Marks
 taken parts = taken_in parts.holders parts.ends

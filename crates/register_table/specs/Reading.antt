@@ -1,4 +1,4 @@
--- What is read of a cell.
+-- What is read from a cell.
 use Rattle.std.specs.Prelude.{Bool, false, Option, Some, None}
 use Rattle.lei_code.specs.Texts.{Text}
 use Rattle.lei_records.specs.declared.item.Item.{Item}

@@ -1,4 +1,4 @@
--- Undos: which writes may be applied to a table, what they do to its cells, and how the last of them are taken back.
+-- Undos: which writes may be applied to a table, what they do to its cells, and how the last ones are undone.
 use Rattle.std.specs.Prelude.{◌≡◌, ℕ, ◌<◌, Bool, false, List, [], ◌∷◌, Option, Some, None, option_map, ⊤}
 use Rattle.std.specs.FinMap.{get, insert, remove}
 use Rattle.lei_records.specs.declared.item.Item.{Item}
@@ -13,18 +13,18 @@ WriteList = List (RowKey × Option Item)
 
 -- ---- which writes may be applied
 
--- The item is an exception that takes out the one of its key.
+-- The item is an exception that withdraws the one under its key.
 abbrev pub is_withdrawal : Item → Bool
 is_withdrawal (Item.Exception item) = item.1
 is_withdrawal item = false
 
--- A write has the key of its item, which is no withdrawal, or it has no item under the key of an exception.
+-- A write has the key of its item, which isn't a withdrawal, or it has the key of an exception and no item.
 abbrev pub IsOwn : RowKey × Option Item → Type 0
 IsOwn (key, Some item) = (key ≡ row_key item) × (is_withdrawal item ≡ false)
 IsOwn (RowKey.Exc lei category, None) = ⊤
 IsOwn (key, None) = ⊥
 
--- Each write is so.
+-- Each write has this property.
 abbrev pub AreOwn : WriteList → Type 0
 AreOwn [] = ⊤
 AreOwn (write ∷ writes) = IsOwn write × AreOwn writes
@@ -34,8 +34,8 @@ abbrev pub StaysKept : WriteList → Table → Type 0
 StaysKept [] table = ⊤
 StaysKept (write ∷ writes) table = IsKept (put_write table write) × StaysKept writes (put_write table write)
 
--- Writes may be applied to a table: each has the key of its item, which is no withdrawal, or none under the key of
--- an exception; and after each of them the table is sound and not too large.
+-- Writes may be applied to a table. Each has the key of its item, which isn't a withdrawal, or the key of an exception
+-- and no item. After each of them the table is sound and not too large.
 pub record MayApply (writes : WriteList) (table : Table) : Type 0 where
   pub own : AreOwn writes
   pub kept : StaysKept writes table
@@ -48,15 +48,15 @@ row_of (Item.Record row) = row
 row_of (Item.Relation row) = row
 row_of (Item.Exception item) = item.0
 
--- The cell that the entry of this number leaves where it puts an item, or none.
+-- The cell of a key under which the entry with this number puts an item, or none.
 abbrev pub cell_of : ℕ → Option Item → Cell
 cell_of entry item = record { entry = entry; row = option_map row_of item }
 
--- The cells after a write of the entry of this number.
+-- The cells after a write of the entry with this number.
 abbrev pub touch : ℕ → Held → RowKey × Option Item → Held
 touch entry held write = insert held (cell_key write.0) (cell_of entry write.1)
 
--- The cells after writes of the entry of this number, from the first to the last.
+-- The cells after writes of the entry with this number, from the first to the last.
 abbrev pub touch_all : ℕ → WriteList → Held → Held
 touch_all entry [] held = held
 touch_all entry (write ∷ writes) held = touch_all entry writes (touch entry held write)
@@ -65,13 +65,13 @@ touch_all entry (write ∷ writes) held = touch_all entry writes (touch entry he
 abbrev pub IsLater : ℕ → Held → Type 0
 IsLater entry held = (key : KeyTexts) (cell : Cell) → get held key ≡ Some cell → cell.entry < entry
 
--- ---- notes, by which writes are taken back
+-- ---- notes, by which writes are undone
 
 -- Notes, in order: a key with the cell that was there before, or with none.
 abbrev pub Notes : Type 0
 Notes = List (RowKey × Option Cell)
 
--- The cells with this under the key, or with none.
+-- The cells with this one under the key, or with none.
 abbrev pub with_cell : Held → KeyTexts → Option Cell → Held
 with_cell held key (Some cell) = insert held key cell
 with_cell held key None = remove held key

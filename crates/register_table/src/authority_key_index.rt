@@ -1,4 +1,4 @@
-// Which record has an authority key.
+//! The index of the records that have authority keys.
 ghost use Rattle.std.specs.Prelude.{◌≡◌, ◌&&◌, ◌↔◌, IsTrue, List, ℕ, true, Some, None, if◌then◌else◌, OnOk, OnErr, is_some, option_map, string_bytes};
 ghost use Rattle.std.specs.BTreeMap.{get_by_text};
 ghost use Rattle.std.specs.Bool.{OnTrue};
@@ -14,11 +14,11 @@ use lei_records::Record;
 use std::alloc::Global;
 use std::collections::BTreeMap;
 
-// By the id of an authority, the LEI of a record, or none where nobody has the key any more.
+// The LEI of a record by the id under one authority, or none if nobody has the key any more.
 type Ids = BTreeMap<String, Option<Lei>>;
 
-/// By authority key, the LEI of the record that took it last. It may have given the key up again. A key that is freed
-/// stays without a LEI until it is dropped.
+/// For each authority key, the LEI of the record that took it last. The record may no longer hold the key. A key that
+/// is freed stays without an LEI until it is dropped.
 #[derive(Drop)]
 pub struct AuthorityKeyIndex {
     pub alloc: Global,
@@ -26,7 +26,7 @@ pub struct AuthorityKeyIndex {
 }
 
 impl AuthorityKeyIndex {
-    /// Nobody has a key.
+    /// An index without keys.
     pub fn new(alloc: Global) -> Self
         ensures { (authority id : List ℕ) → noted_holder result authority id ≡ None }
     {
@@ -36,7 +36,7 @@ impl AuthorityKeyIndex {
         }
     }
 
-    /// The LEI that was noted under a key last.
+    /// The LEI that was last noted under a key, unless the key was freed.
     pub fn get(&self, authority: &str, id: &str) -> Option<Lei>
         ensures { result ≡ holder_in self.now authority.now id.now }
     {
@@ -44,8 +44,8 @@ impl AuthorityKeyIndex {
         *ids.get(id)?
     }
 
-    /// Notes a record under the key that it holds, if it holds one. Where somebody was noted under the key before, it
-    /// takes no memory.
+    /// Notes a record under the key that it holds, if it holds one. If the index has the key already, nothing is
+    /// allocated.
     pub fn put(&mut self, record: &Record) -> Result<(), NoMemory>
         ensures put { OnOk result ((authority id : List ℕ) → holder_in self.new authority id
             ≡ (if Cells.holds authority id record.now then Some (lei_in record.now)
@@ -62,7 +62,7 @@ impl AuthorityKeyIndex {
         }
     }
 
-    /// Leaves no LEI under a key.
+    /// Frees a key: no LEI is left under it.
     pub fn free(&mut self, authority: &str, id: &str)
         ensures { (a i : List ℕ) → noted_holder self.new a i
             ≡ (if bytes_eq authority.now a && bytes_eq id.now i then freed (noted_holder self.old a i)
@@ -73,7 +73,7 @@ impl AuthorityKeyIndex {
         }
     }
 
-    /// Drops a key under which no LEI stands.
+    /// Drops a key that has no LEI.
     pub fn drop_freed(&mut self, authority: &str, id: &str)
         ensures { (a i : List ℕ) → noted_holder self.new a i
             ≡ (if bytes_eq authority.now a && bytes_eq id.now i then dropped (noted_holder self.old a i)
@@ -84,7 +84,7 @@ impl AuthorityKeyIndex {
         }
     }
 
-    // An authority goes with its last id.
+    // Removes an id, and its authority if this was the last id.
     fn remove(&mut self, authority: &str, id: &str)
         ensures { (a i : List ℕ) → noted_holder self.new a i
             ≡ (if bytes_eq authority.now a && bytes_eq id.now i then None else noted_holder self.old a i) }
@@ -94,7 +94,7 @@ impl AuthorityKeyIndex {
         }
     }
 
-    // Whether the authority has no id then.
+    // Removes an id. The result is whether the authority is left without ids.
     fn remove_id(&mut self, authority: &str, id: &str) -> bool
         ensures removed { (a i : List ℕ) → noted_holder self.new a i
             ≡ (if bytes_eq authority.now a && bytes_eq id.now i then None else noted_holder self.old a i) }
@@ -123,7 +123,7 @@ impl AuthorityKeyIndex {
         }
     }
 
-    // Notes the first id of an authority.
+    // Notes the first id under an authority.
     fn note_first(&mut self, authority: &str, id: &str, lei: Lei) -> Result<(), NoMemory>
         requires { get_by_text self.old.map authority.now ≡ None }
         ensures put { OnOk result ((a i : List ℕ) → noted_holder self.new a i
@@ -139,7 +139,7 @@ impl AuthorityKeyIndex {
     }
 }
 
-/// The authority key that a record holds.
+/// The authority key that a record holds. A record that isn't live holds none.
 #[tactic(auto, unfolding(lei_records::specs::Cells::holds))]
 pub fn held_key(record: &Record) -> Option<(&str, &str)>
     ensures { (authority id : List ℕ) → Cells.holds authority id record.now
@@ -152,7 +152,7 @@ pub fn held_key(record: &Record) -> Option<(&str, &str)>
     }
 }
 
-// Leaves no LEI under an id.
+// Frees an id: no LEI is left under it.
 fn free_id(ids: &mut Ids, id: &str)
     ensures { (i : List ℕ) → get_by_text ids.new i
         ≡ (if bytes_eq id.now i then freed (get_by_text ids.old i) else get_by_text ids.old i) }

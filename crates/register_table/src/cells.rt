@@ -1,4 +1,4 @@
-// The cells of a table, in an ordered map.
+//! The cells of a table, in an ordered map.
 ghost use Rattle.std.specs.Prelude.{◌≡◌, ◌++◌, ◌∷◌, [], true, Some, None, IfOk, OnOk, OnErr, IfSome, is_some, map, option_map};
 ghost use Rattle.std.specs.List.{filter};
 ghost use Rattle.std.specs.FinMap.{empty, entries, get, insert, remove};
@@ -20,13 +20,13 @@ use std::alloc::Global;
 use std::collections::BTreeMap;
 use std::marker::Model;
 
-// A cell takes about as long to be looked up, and put into an order, as so many cells that are passed in order.
+// To look up a cell and put it in order takes about as long as to go over this many cells in order.
 const LOOK_UP: usize = 8;
 
-// Slots that are lent, under their keys.
+// Borrowed slots under their keys.
 type LentSlots<'a> = BTreeMap<TextKey, &'a Slot>;
 
-/// The cells. Contracts see them as a finite map.
+/// The cells under their keys. Contracts see them as a finite map.
 #[derive(Drop)]
 pub struct CellMap {
     map: BTreeMap<TextKey, Slot>,
@@ -49,7 +49,7 @@ impl Model for CellMap {
 }
 
 impl CellMap {
-    /// No cell.
+    /// A map without cells.
     pub fn new(alloc: Global) -> Self
         ensures { result ≡ empty }
     {
@@ -64,7 +64,7 @@ impl CellMap {
         }
     }
 
-    /// What is held under a key.
+    /// What is held under a key, or `None` if the key has no cell.
     pub fn get(&self, key: &RowKey) -> Option<&Slot>
         ensures cell { option_map (λ slot. cell_in slot.now) result ≡ get self.now (cell_key key.now) }
         ensures own { IfSome result (λ slot. IsOwnCell key.now slot.now) }
@@ -79,7 +79,8 @@ impl CellMap {
         self.counts
     }
 
-    /// The cells whose numbers are greater than `after` and at most `upto`, found by the stamps of such numbers.
+    /// The cells whose numbers are greater than `after` and at most `upto`, in the order of their keys. Each of them
+    /// must have a stamp. Few stamps are used to look up the cells. If there are many, all cells are gone over instead.
     pub fn touched(
         &self,
         alloc: Global,
@@ -100,7 +101,7 @@ impl CellMap {
         touched_in(alloc, &slots)
     }
 
-    // The slots whose numbers are greater than `after` and at most `upto`, found by the stamps of such numbers.
+    // The slots whose numbers are greater than `after` and at most `upto`, looked up by their stamps.
     fn stamped(
         &self,
         alloc: Global,
@@ -125,7 +126,7 @@ impl CellMap {
         Ok(slots)
     }
 
-    /// Puts a cell under a key, and hands out what was held there. At a key that has one it takes no memory.
+    /// Puts a cell under a key, and returns what was held there. If the key has a cell already, nothing is allocated.
     pub fn insert(&mut self, key: &RowKey, slot: Slot) -> Result<Option<Slot>, NoMemory>
         requires own { IsOwnCell key.now slot }
         ensures cells { OnOk result (self.new ≡ insert self.old (cell_key key.now) (cell_in slot)) }
@@ -135,7 +136,7 @@ impl CellMap {
         ensures absent { OnErr result (get self.old (cell_key key.now) ≡ None) }
     {
         let is = slot.item.is_some();
-        // There is room for the counts, since no map has more than 2^63 cells.
+        // The counts don't overflow, because no map has more than 2^63 cells.
         let _cells = self.map.len();
         match self.map.insert(TextKey { key: *key }, slot) {
             Ok(out) => {
@@ -146,7 +147,7 @@ impl CellMap {
         }
     }
 
-    /// Takes out the cell under a key.
+    /// Removes the cell under a key, and returns it.
     pub fn remove(&mut self, key: &RowKey) -> Option<Slot>
         ensures cells { self.new ≡ remove self.old (cell_key key.now) }
         ensures out { option_map cell_in result ≡ get self.old (cell_key key.now) }
@@ -159,7 +160,7 @@ impl CellMap {
     }
 }
 
-// Whether there is a slot, and an item in it.
+// Whether there is a slot that has an item.
 fn has_item(slot: &Option<Slot>) -> bool
     ensures { result ≡ is_some (row_in (option_map cell_in slot.now)) }
 {
@@ -169,7 +170,7 @@ fn has_item(slot: &Option<Slot>) -> bool
     }
 }
 
-// Puts a slot under its key.
+// Puts a borrowed slot under its key.
 fn lend<'a>(slots: &mut LentSlots<'a>, key: &RowKey, slot: &'a Slot) -> Result<(), NoMemory>
     requires own { IsOwnCell key.now slot.now }
     requires all_own { AreOwnCells (unlent slots.old.entries) }
@@ -183,7 +184,7 @@ fn lend<'a>(slots: &mut LentSlots<'a>, key: &RowKey, slot: &'a Slot) -> Result<(
     }
 }
 
-// The slots under their keys, in the order of these. Their items share their texts.
+// The slots under their keys, in the order of the keys. The items in the result share their texts with the slots.
 fn touched_in(alloc: Global, slots: &LentSlots<'_>) -> Result<Vec<Touched>, NoMemory>
     requires { AreOwnCells (unlent slots.now.entries) }
     ensures told { IfOk result (λ list. map shown list.items ≡ entries (held_in (unlent slots.now.entries))) }
@@ -196,8 +197,8 @@ fn touched_in(alloc: Global, slots: &LentSlots<'_>) -> Result<Vec<Touched>, NoMe
     Ok(list)
 }
 
-// The cells whose numbers are greater than `after` and at most `upto`, found by going over all. Room is taken for so
-// many of them at once.
+// The cells whose numbers are greater than `after` and at most `upto`, found by going over all cells. Capacity for
+// `room` of them is allocated at once.
 fn touched_among(
     alloc: Global,
     cells: &BTreeMap<TextKey, Slot>,
@@ -219,7 +220,7 @@ fn touched_among(
     Ok(list)
 }
 
-// Puts a slot under its key behind the others, if its number is greater than `after` and at most `upto`.
+// Appends a slot under its key, if its number is greater than `after` and at most `upto`.
 fn push_within(
     list: &mut Vec<Touched>,
     key: &RowKey,

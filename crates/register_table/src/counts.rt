@@ -1,4 +1,4 @@
-// How many rows of each kind are held.
+//! Counts of the rows of each kind that are held.
 ghost use Rattle.std.specs.Prelude.{◌≡◌, ◌+◌, ◌^◌, ◌<◌};
 ghost use Rattle.register_table.specs.Counts.{AreStepped, CanRise, step};
 
@@ -13,7 +13,8 @@ pub struct Counts {
 }
 
 impl Counts {
-    /// Counts what was held under a key and what is held there now.
+    /// Changes the count of the key's kind. `was` says whether a row was held under the key, and `is` whether one is
+    /// held now.
     pub fn change(&mut self, key: &RowKey, was: bool, is: bool)
         requires { CanRise self.old }
         ensures { AreStepped key.now was is self.old self.new }

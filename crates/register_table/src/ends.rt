@@ -1,4 +1,4 @@
-// Which relationship of a start and a type is active.
+//! The index of the active relationships by start and type.
 ghost use Rattle.std.specs.Prelude.{◌≡◌, ◌&&◌, List, ℕ, true, Some, None, if◌then◌else◌, OnOk, OnErr, is_some};
 ghost use Rattle.std.specs.Str.{bytes_eq};
 ghost use Rattle.lei_shapes.specs.declared.lists.RelationType.{RelationType};
@@ -13,16 +13,16 @@ use lei_shapes::RelationType;
 use std::alloc::Global;
 use std::collections::BTreeMap;
 
-/// By start and type, the end of the relationship that was put as an active one last. It may not be active any longer.
-/// A start and a type that are freed stay without an end until they are dropped. Types have no order of their own, and
-/// stand by their texts.
+/// For each start and type, the end of the relationship that was last put as an active one. It may no longer be active.
+/// A start and a type that are freed stay without an end until they are dropped. Types have no order of their own, so
+/// their texts are used.
 #[derive(Drop)]
 pub struct Ends {
     pub map: BTreeMap<(Lei, &'static str), Option<Lei>>,
 }
 
 impl Ends {
-    /// No relationship is active.
+    /// An index without ends.
     pub fn new(alloc: Global) -> Self
         ensures { (start : List ℕ) (kind : RelationType) → noted_end result start kind ≡ None }
     {
@@ -31,14 +31,15 @@ impl Ends {
         }
     }
 
-    /// The end that was noted under a start and a type last.
+    /// The end that was last noted under a start and a type, unless they were freed.
     pub fn get(&self, start: &Lei, kind: RelationType) -> Option<Lei>
         ensures { result ≡ end_in_index self.now start.now kind }
     {
         *self.map.get(&(*start, kind.text()))?
     }
 
-    /// Notes the end of a relationship, if it is active. Where one was noted before, it takes no memory.
+    /// Notes the end of a relationship, if it is active. If the index has its start and type already, nothing is
+    /// allocated.
     pub fn put(&mut self, relation: &Relation) -> Result<(), NoMemory>
         ensures put { OnOk result ((start : List ℕ) (kind : RelationType) → end_in_index self.new start kind
             ≡ (if Relations.is_active_of start kind relation.now then Some (end_in relation.now)
@@ -62,7 +63,7 @@ impl Ends {
         }
     }
 
-    /// Leaves no end under a start and a type.
+    /// Frees a start and a type: no end is left under them.
     pub fn free(&mut self, start: &Lei, kind: RelationType)
         ensures { (s : List ℕ) (k : RelationType) → noted_end self.new s k
             ≡ (if bytes_eq start.now s && is_same_type kind k then freed (noted_end self.old s k)
@@ -73,7 +74,7 @@ impl Ends {
         }
     }
 
-    /// Drops a start and a type under which no end stands.
+    /// Drops a start and a type that have no end.
     pub fn drop_freed(&mut self, start: &Lei, kind: RelationType)
         ensures { (s : List ℕ) (k : RelationType) → noted_end self.new s k
             ≡ (if bytes_eq start.now s && is_same_type kind k then dropped (noted_end self.old s k)

@@ -1,5 +1,5 @@
-// Keys of the indexes that writes freed. They stay until the next writes, so that those that freed them can be taken
-// back without memory, and are dropped then. Keys that writes took are dropped when these are taken back.
+//! Keys of the indexes that writes freed. They stay until the next writes, so that the writes that freed them can be
+//! undone without allocating memory, and are then dropped. Keys that writes took are dropped when these are undone.
 ghost use Rattle.std.specs.Prelude.{◌≡◌, Some, map};
 ghost use Rattle.std.specs.List.{All, AllByRecursion};
 ghost use Rattle.lei_records.specs.declared.item.Item.{Item};
@@ -13,8 +13,8 @@ use crate::writes::undo_notes;
 use lei_outside::NoMemory;
 use lei_records::{Item, Record, Relation};
 
-/// Takes writes back by their notes, and drops the keys that nobody holds then, but for those that the notes of the
-/// writes before name. It takes no memory.
+/// Undoes writes by their notes, and drops the keys that nobody holds any more, except those that the notes of the
+/// writes before name. Nothing is allocated.
 pub fn take_back(parts: &mut Parts, mut notes: Vec<Note>, before: &[Note])
     requires parts { AreParts parts.old }
     requires undoable { CanBeUndone (noted parts.old) notes.items parts.old.cells }
@@ -29,8 +29,8 @@ pub fn take_back(parts: &mut Parts, mut notes: Vec<Note>, before: &[Note])
     drop_freed(parts, notes.as_slice());
 }
 
-/// Leaves no LEI under the keys of the items of these notes, where nobody holds them any more. What stood anywhere
-/// still does, and no LEI comes anywhere.
+/// Frees the keys of the items of these notes that nobody holds any more. The indexes keep all keys, and no key gets an
+/// LEI that had none.
 pub fn free_keys(parts: &mut Parts, notes: &[Note])
     requires { AreParts parts.old }
     ensures cells { parts.new.cells ≡ parts.old.cells }
@@ -105,8 +105,8 @@ fn free_start(parts: &mut Parts, relation: &Relation)
     }
 }
 
-/// Puts a LEI under each key of the items of these notes where none stands, so that it isn't dropped. Each LEI stays
-/// where it stood. The keys have their places, so it takes no memory.
+/// Puts an LEI under each key of the items of these notes that has none, so that it isn't dropped. Keys that have an
+/// LEI keep one. The indexes have the keys already, so nothing is allocated.
 fn hold_keys(parts: &mut Parts, notes: &[Note])
     requires parts { AreParts parts.old }
     requires places { AllByRecursion (IsNoteOf (noted parts.old)) notes.now }
@@ -188,7 +188,7 @@ fn hold_start(parts: &mut Parts, relation: &Relation)
     }
 }
 
-/// Drops the keys of the items of these notes under which no LEI stands. Each LEI stays where it stood.
+/// Drops the keys of the items of these notes that have no LEI. Keys that have an LEI keep one.
 pub fn drop_freed(parts: &mut Parts, notes: &[Note])
     requires { AreParts parts.old }
     ensures cells { parts.new.cells ≡ parts.old.cells }

@@ -1,4 +1,4 @@
-// Keys of cells in the order of their texts.
+//! Keys of cells in the order of their texts.
 ghost use Rattle.std.specs.Prelude.{◌≡◌, Some, refl};
 ghost use Rattle.std.specs.Cmp;
 ghost use Rattle.std.specs.Cmp.{eq_by_cmp_equiv, on_total, partial_order_from_agreeing_total};
@@ -14,7 +14,7 @@ use lei_code::Lei;
 use lei_records::RowKey;
 use std::cmp::Ordering;
 
-/// A key in the order of its texts, with the kind first.
+/// A key that is ordered by its kind first, and then by its texts.
 #[derive(Clone, Copy)]
 pub struct TextKey {
     pub key: RowKey,
@@ -81,7 +81,7 @@ fn compare(a: &RowKey, b: &RowKey) -> Ordering
     }
 }
 
-// The order of two LEIs, each with a text behind it. The texts are compared only if the LEIs are the same.
+// The order of two LEIs, each followed by a text. The texts are compared only if the LEIs are the same.
 fn compare_starts(lei: &Lei, text: &str, other: &Lei, other_text: &str) -> Ordering
     ensures { result ≡ ordering_then (slice_cmp nat_cmp lei.now other.now)
         (slice_cmp nat_cmp text.now other_text.now) }

@@ -1,5 +1,5 @@
 //! The records, the relationships and the exceptions that are held, in ordered maps. Writes are put in order, and the
-//! last ones can be taken back without memory.
+//! last ones can be undone without allocating memory.
 #![tactic(auto)]
 
 mod authority_key_index;

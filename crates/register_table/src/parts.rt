@@ -1,4 +1,4 @@
-// The cells of a table with the two indexes over them, and what writes do to all three.
+//! The cells of a table with the two indexes over them, and what writes do to all three.
 ghost use Rattle.std.specs.Prelude.{◌≡◌, None, IfOk, OnOk, OnErr, IfSome, IsSome, option_map};
 ghost use Rattle.std.specs.FinMap.{get, insert};
 ghost use Rattle.register_table.specs.Cells.{IsOwnCell, cell_in};
@@ -14,7 +14,8 @@ use crate::slots::Slot;
 use lei_outside::NoMemory;
 use lei_records::{Item, RowKey};
 
-/// The cells, and two indexes over them. What an index has is asked of the cells again, so it may have more than they.
+/// The cells, and two indexes over them. What an index returns is checked against the cells, so it may have more than
+/// they do.
 #[derive(Drop)]
 pub struct Parts {
     pub cells: CellMap,
@@ -29,7 +30,7 @@ pub struct Note {
     pub slot: Option<Slot>,
 }
 
-/// Puts a cell under a key, and hands out what was held there. Where there is no memory, the cells stay as they were.
+/// Puts a cell under a key, and returns what was held there. If memory runs out, the cells stay as they were.
 pub fn put(parts: &mut Parts, key: RowKey, slot: Slot) -> Result<Option<Slot>, NoMemory>
     requires own { IsOwnCell key slot }
     requires parts { AreParts parts.old }
@@ -48,7 +49,7 @@ pub fn put(parts: &mut Parts, key: RowKey, slot: Slot) -> Result<Option<Slot>, N
     parts.cells.insert(&key, slot)
 }
 
-// Notes what an item holds in the indexes.
+// Notes in the indexes what an item holds.
 fn index(
     holders: &mut AuthorityKeyIndex,
     ends: &mut Ends,
@@ -66,7 +67,7 @@ fn index(
     }
 }
 
-/// Puts back what was held under a key, and hands out what is held there now. It takes no memory.
+/// Puts back what was held under a key, and returns what the key had until now. Nothing is allocated.
 pub fn put_back(parts: &mut Parts, key: RowKey, slot: Option<Slot>) -> Option<Slot>
     requires own { IfSome slot (IsOwnCell key) }
     requires parts { AreParts parts.old }

@@ -1,4 +1,4 @@
-// What the parts of a table have under the keys of its cells.
+//! What the parts of a table have under the keys of its cells.
 ghost use Rattle.std.specs.Prelude.{◌≡◌, Some, None, if◌then◌else◌, option_map};
 ghost use Rattle.lei_records.specs.Tables;
 ghost use Rattle.lei_records.specs.Tables.{active_of, holder_of, relation_row, row_at};
@@ -13,7 +13,7 @@ use lei_records::{Item, Record, Relation, RowKey};
 use lei_shapes::{ExceptionCategory, RelationType};
 
 impl Parts {
-    /// The record of an entity.
+    /// The record with this LEI, if one is held.
     pub fn record(&self, lei: &Lei) -> Option<&Record>
         ensures { option_map (λ row. row.now) result ≡ row_at (rows self.now.cells) lei.now }
     {
@@ -23,7 +23,7 @@ impl Parts {
         }
     }
 
-    /// The relationship of a start, a type and an end.
+    /// The relationship of a start, a type and an end, if it is held.
     pub fn relation(&self, start: &Lei, kind: RelationType, end: &Lei) -> Option<&Relation>
         ensures { option_map (λ row. row.now) result
             ≡ relation_row (rows self.now.cells) start.now kind end.now }
@@ -34,7 +34,7 @@ impl Parts {
         }
     }
 
-    /// Whether there is an exception of an entity and a category.
+    /// Whether an exception of an entity and a category is held.
     pub fn has_exception(&self, lei: &Lei, category: ExceptionCategory) -> bool
         ensures { result ≡ Tables.has_exception (rows self.now.cells) lei.now category }
     {
@@ -44,7 +44,7 @@ impl Parts {
         }
     }
 
-    /// The live record that has an authority key: the one that took it last, if it still has it.
+    /// The LEI of the live record that has an authority key: the record that took it last, if it still has it.
     pub fn holder(&self, authority: &str, id: &str) -> Option<Lei>
         requires { AreParts self.now }
         ensures { result ≡ holder_of (rows self.now.cells) authority.now id.now }
@@ -55,7 +55,7 @@ impl Parts {
         }
     }
 
-    /// The end of the active relationship of a start and a type: the one that was noted last, if it still is active.
+    /// The end of the active relationship of a start and a type: the one that was last noted, if it still is active.
     pub fn active(&self, start: &Lei, kind: RelationType) -> Option<Lei>
         requires { AreParts self.now }
         ensures { result ≡ active_of (rows self.now.cells) start.now kind }
@@ -66,7 +66,7 @@ impl Parts {
         }
     }
 
-    // The record that took a key, if it still has it.
+    // The LEI of the record that took a key, if the record still has it.
     fn if_held(&self, authority: &str, id: &str, lei: Lei) -> Option<Lei>
         ensures { result ≡ (if row_holds authority.now id.now (row_at (rows self.now.cells) lei)
             then Some lei else None) }

@@ -1,4 +1,4 @@
-// What is held under a key.
+//! Slots: what is held under a key.
 ghost use Rattle.std.specs.Prelude.{◌≡◌, IfOk};
 
 use lei_outside::NoMemory;
@@ -12,7 +12,7 @@ pub struct Slot {
     pub item: Option<Item>,
 }
 
-/// An item once more, which shares its texts, or none.
+/// A second item that shares its texts with this one, or none.
 pub fn share(item: &Option<Item>) -> Result<Option<Item>, NoMemory>
     ensures { IfOk result (λ shared. shared ≡ item.now) }
 {

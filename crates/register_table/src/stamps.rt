@@ -1,4 +1,4 @@
-// The keys that were touched, in the order of the numbers of the entries that touched them.
+//! Stamps: the keys that were touched, in the order of the numbers of the entries that touched them.
 ghost use Rattle.std.specs.Prelude.{ℕ, ◌+◌, ◌<◌, ◌≤◌, ◌≡◌, length, vec_capacity, vec_len};
 ghost use Rattle.std.specs.List.{All};
 ghost use Rattle.lei_records.specs.Tables.{KeyTexts};
@@ -8,15 +8,15 @@ ghost use Rattle.register_table.specs.Undos.{IsLater, touch_all};
 
 use lei_records::{Item, RowKey};
 
-/// A key that the entry of this number touched.
+/// A key that the entry with this number touched.
 #[derive(Clone, Copy)]
 pub struct Stamp {
     pub entry: u64,
     pub key: RowKey,
 }
 
-/// Puts stamps of the writes of an entry behind those of earlier ones, for which there is room. Stamps of its number or
-/// a greater one are of writes that were taken back, and go.
+/// Appends stamps of the writes of an entry to those of earlier entries. There must be capacity for them. Stamps with
+/// its number or a greater one are of writes that were undone, and are removed.
 pub fn stamp_writes(stamps: &mut Vec<Stamp>, writes: &[(RowKey, Option<Item>)], entry: u64)
     requires order { AreInOrder stamps.old.items }
     requires room { vec_len stamps.old + length writes.now ≤ vec_capacity stamps.old }
@@ -35,7 +35,7 @@ pub fn stamp_writes(stamps: &mut Vec<Stamp>, writes: &[(RowKey, Option<Item>)], 
     }
 }
 
-// Drops the stamps of this number and of greater ones.
+// Removes the stamps with this number or a greater one.
 fn drop_from(stamps: &mut Vec<Stamp>, entry: u64)
     requires order { AreInOrder stamps.old.items }
     ensures order { AreInOrder stamps.new.items }

@@ -27,14 +27,14 @@ use std::alloc::Global;
 use std::marker::Model;
 
 /// The records, the relationships and the exceptions that are held, in ordered maps. Contracts see the cells that are
-/// held, and those before the last writes, where these can be taken back.
+/// held, and those before the last writes, if these can be undone.
 #[derive(Drop)]
 pub struct Table {
     alloc: Global,
     parts: Parts,
-    // Each key that was touched, behind those of earlier entries.
+    // Each key that was touched, after those of earlier entries.
     stamps: Vec<Stamp>,
-    // What the last writes replaced, unless they were taken back.
+    // What the last writes replaced, unless they were undone.
     last: Option<Vec<Note>>,
 }
 
@@ -122,8 +122,8 @@ impl Table {
         })
     }
 
-    /// Puts writes of the entry of this number, from the first to the last. Each key that is written has the number
-    /// then. Where there is no memory, the table stays as it was, and so do the writes that can be taken back.
+    /// Puts the writes of the entry with this number, from the first to the last. Each key that is written then has the
+    /// number. If memory runs out, the table stays as it was, and so do the writes that can be undone.
     pub fn apply(&mut self, writes: &Writes, entry: u64) -> Result<(), NoMemory>
         requires may { MayApply writes.now (rows self.old.held) }
         requires later { IsLater entry self.old.held }
@@ -156,8 +156,8 @@ impl Table {
         }
     }
 
-    /// Takes back what the last `apply` put: numbers, rows and withdrawals. It takes no memory. The condition is that
-    /// there is something to take back.
+    /// Undoes what the last successful `apply` put: numbers, rows and withdrawals. Nothing is allocated. There must be
+    /// something to undo.
     pub fn undo(&mut self)
         requires { IsSome self.old.before }
         ensures held { Some self.new.held ≡ self.old.before }
@@ -168,8 +168,8 @@ impl Table {
         }
     }
 
-    /// Each key that was touched last by an entry whose number is greater than `after` and at most `upto`, in the order
-    /// of kinds and keys, with the item that is held under it, or none after a withdrawal.
+    /// Each key that was last touched by an entry whose number is greater than `after` and at most `upto`, ordered by
+    /// kind and key. Each has the item that is held under it, or none after a withdrawal.
     pub fn touched(&self, after: u64, upto: u64) -> Result<Vec<Touched>, NoMemory>
         ensures told { IfOk result (λ list. map shown list.items ≡ touched after upto self.now.held) }
         ensures own { IfOk result (λ list. AreOwnItems list.items) }
@@ -196,16 +196,17 @@ impl Table {
         (counts.records, counts.relations, counts.exceptions)
     }
 
-    /// Whether each cell that was read, empty ones too, is that of the table. It takes no memory.
+    /// Whether each cell that was read, including empty ones, is that of the table. Nothing is allocated.
     pub fn agrees(&self, reads: &Reads) -> bool
         ensures { IsTrue result ↔ Agrees reads.now (rows self.now.held) }
     {
         cell_reads::agrees(self, reads)
     }
 
-    /// The cells of these keys and, for each record among them, those of the first 201 different LEIs of its levels of
-    /// successors, level by level and in byte order within a level, and of the direct parents from it on, to 200
-    /// members. Of them all the first `most` are fetched, and one that comes twice counts twice.
+    /// The cells of these keys and, for each record among them, those of its successors and its direct parents. The
+    /// successors are the first 201 different LEIs of its levels, level by level and in byte order within a level. The
+    /// direct parents are those from it on, up to 200 members. The first `most` of all these cells are fetched. A cell
+    /// that occurs twice counts twice.
     pub fn fetch(&self, keys: &[CellKey], most: u32) -> Result<Fetched, NoMemory>
         ensures { IfOk result (λ fetched. HasJust (cells_in fetched) (cells_of (rows self.now.held))
             (take most (fetched_keys (cells_of (rows self.now.held)) keys.now))) }
@@ -213,7 +214,7 @@ impl Table {
         fetched_cells::fetch(self.alloc, self, keys, most)
     }
 
-    /// The record of an entity.
+    /// The record with this LEI, if one is held.
     pub fn show(&self, lei: &Lei) -> Option<&Record>
         ensures { option_map (λ row. row.now) result ≡ row_at (rows self.now.held) lei.now }
     {
@@ -221,7 +222,7 @@ impl Table {
     }
 }
 
-// The notes of the last writes, or none.
+// The notes of the last writes, if there are any.
 fn notes_of(last: &Option<Vec<Note>>) -> &[Note]
     ensures some { IfSome last.now (λ notes. result.now ≡ notes.items) }
     ensures none { last.now ≡ None → result.now ≡ [] }

@@ -1,4 +1,4 @@
-// What entries touched.
+//! What entries touched.
 ghost use Rattle.std.specs.Prelude.{◌≡◌, ◌++◌, ◌∷◌, [], ◌&&◌, IfOk, if◌then◌else◌, nat_lt, nat_le};
 ghost use Rattle.register_table.specs.Touched.{shown};
 ghost use Rattle.register_table.specs.Cells.{IsItemOf, IsOwnCell, cell_in};
@@ -9,8 +9,8 @@ use crate::slots::{Slot, share};
 use lei_outside::NoMemory;
 use lei_records::{Item, RowKey};
 
-/// A key that an entry touched, with the number of the entry that touched it last, and the item that is held under it,
-/// or none after a withdrawal.
+/// A key that was touched, with the number of the entry that touched it last. It has the item that is held under the
+/// key, or none after a withdrawal.
 #[derive(Debug, PartialEq, Eq, Drop)]
 pub struct Touched {
     pub key: RowKey,
@@ -25,7 +25,7 @@ pub fn is_within(slot: &Slot, after: u64, upto: u64) -> bool
     after < slot.entry && slot.entry <= upto
 }
 
-/// A slot under its key, whose item shares its texts.
+/// A slot under its key. The item in the result shares its texts with the slot.
 pub fn touched_of(key: &RowKey, slot: &Slot) -> Result<Touched, NoMemory>
     ensures shown { IfOk result (λ touched. shown touched ≡ (cell_key key.now, cell_in slot.now)) }
     ensures own { IsOwnCell key.now slot.now → IfOk result (λ touched. IsItemOf touched.key touched.item) }

@@ -1,4 +1,4 @@
-// Writes that are put into the parts of a table, with notes that take them back.
+//! Puts writes into the parts of a table, with notes by which they can be undone.
 ghost use Rattle.std.specs.Prelude.{◌≡◌, ◌+◌, ◌<◌, ◌≤◌, [], IfOk, IsSome, OnOk, length, map, option_map, vec_capacity, vec_len};
 ghost use Rattle.std.specs.FinMap.{get};
 ghost use Rattle.lei_records.specs.Tables;
@@ -14,8 +14,8 @@ use lei_outside::NoMemory;
 use lei_records::{Item, RowKey};
 use std::alloc::Global;
 
-/// Puts writes of the entry of this number, from the first to the last, and notes what they replace, for which there is
-/// room. Where there is no memory, the notes are of those that were put.
+/// Puts the writes of the entry with this number, from the first to the last, and notes what they replace. There must
+/// be capacity for the notes. If memory runs out, the notes are of the writes that were put.
 pub fn put_writes(
     alloc: Global,
     parts: &mut Parts,
@@ -70,7 +70,7 @@ fn put_write(
     Ok(())
 }
 
-// An item once more, with the number of the entry that puts it, or none.
+// A slot with the number of the entry that puts it, and an item that shares its texts with this one, or none.
 fn slot_of(item: &Option<Item>, entry: u64) -> Result<Slot, NoMemory>
     ensures { IfOk result (λ slot. (slot.item ≡ item.now) × (slot.entry ≡ entry)) }
 {
@@ -80,7 +80,7 @@ fn slot_of(item: &Option<Item>, entry: u64) -> Result<Slot, NoMemory>
     })
 }
 
-/// Puts back what was noted, from the last note to the first, and notes in its stead what was held. It takes no memory.
+/// Puts back what was noted, from the last note to the first, and notes instead what was held. Nothing is allocated.
 pub fn undo_notes(parts: &mut Parts, notes: &mut [Note])
     requires parts { AreParts parts.old }
     requires undoable { CanBeUndone (noted parts.old) notes.old parts.old.cells }

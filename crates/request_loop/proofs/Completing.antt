@@ -1,4 +1,4 @@
--- What comes of a wire that doesn't fail.
+-- The result of serving a wire that doesn't fail.
 use Rattle.std.proofs.Common.{◌≡◌, ℕ, ℤ, ◌≤◌, List, ◌++◌, length, Option, None, Some, refl, sym, ap, ◌∙◌, subst, arith, length-append}
 use Rattle.std.proofs.lemmas.List.{append-nil}
 use Rattle.lei_outside.specs.Told.{IsAtEnd, Loses}
@@ -8,12 +8,12 @@ use Rattle.request_loop.specs.declared.frames.Ended.{Ended}
 use Rattle.request_loop.proofs.Ending.{WholeOn}
 use Rattle.request_loop.proofs.FrameLists.{frames_more}
 
--- what was taken of told bytes, to their end
+-- if told bytes are taken to their end, they are the bytes that were taken
 told_taken : (bytes taken : List ℕ) (left : Option (List ℕ)) → Loses (Some bytes) left taken → IsAtEnd left → taken ≡ bytes
 told_taken bytes taken None loses ended = absurd loses
 told_taken bytes taken (Some left) loses ended = sym (loses ∙ (ap (λ (l : List ℕ). taken ++ l) ended ∙ append-nil taken))
 
--- what was answered of bytes was answered of more
+-- what was answered in bytes was answered in more bytes that start with them
 last_more : {A W P E : Type 0} (step : A → W → List ℤ → P → A → Type 0) (rules : Rules W P E) (end : E)
     (start now : Progress A) (bytes taken : List ℕ) (left : Option (List ℕ)) → WholeOn rules → Loses (Some bytes) left taken
     → AnswersToLast step rules end start taken now → AnswersToLast step rules end start bytes now

@@ -1,4 +1,4 @@
--- Counts of faults that rise with each reply of a kind.
+-- Counts of faults that rise with each reply of one kind.
 use Rattle.std.proofs.Common.{◌≡◌, ℕ, ℤ, ◌+◌, ◌≤◌, Bool, List, [], ◌∷◌, ◌++◌, length, sym, ap, ◌∙◌, subst, arith, length-append}
 use Rattle.std.specs.List.{filter}
 use Rattle.std.proofs.lemmas.List.Elements.{filter-append}
@@ -14,12 +14,12 @@ RoseBy-join n m a b c first second = omega (arith, first, second)
 pub RoseBy-fewer : (n m a b : ℕ) → n ≤ m → RoseBy m a b → RoseBy n a b
 RoseBy-fewer n m a b few rose = omega (arith, few, rose)
 
--- how many pass a test, of two lists
+-- the number of elements that pass a test, in two lists together
 pub passing-append : {P : Type 0} (test : P → Bool) (xs ys : List P)
     → length (filter test (xs ++ ys)) ≡ length (filter test xs) + length (filter test ys)
 passing-append test xs ys = ap length (filter-append test xs ys) ∙ length-append (filter test xs) (filter test ys)
 
--- where a count rises with each reply that passes a test, it rises by their number in a session
+-- if a count rises with each reply that passes a test, it rises in a session by the number of these replies
 pub session-counts : {A W P : Type 0} (step : A → W → List ℤ → P → A → Type 0) (count : A → ℕ) (test : P → Bool)
     → ((old new : A) (ask : W) (moments : List ℤ) (reply : P) → step old ask moments reply new
     → RoseBy (length (filter test (reply ∷ []))) (count old) (count new))

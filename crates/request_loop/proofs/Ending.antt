@@ -15,7 +15,8 @@ use Rattle.request_loop.proofs.FrameLists.{frames_join, frames_more, frames_one}
 use Rattle.request_loop.proofs.Refusing.{ran_refused, stops_refusing, written_so}
 use Rattle.request_loop.proofs.Running.{answers_meant, ran_join, ran_none, ran_nothing, ran_one, stopped_join, stopped_one}
 
--- So many bytes were taken, of which these are held, and all whole frames before them were answered.
+-- This many bytes were taken. All whole frames in them before the bytes `since` were answered, and `held` is what is
+-- held of these.
 pub record Midway {A W P E : Type 0} (step : A → W → List ℤ → P → A → Type 0) (rules : Rules W P E) (most : ℕ)
     (holding : List ℕ → List ℕ → Type 0) (start : Progress A) (first left : Option (List ℕ)) (count : ℕ) (now : Progress A)
     (held waiting : List ℕ) : Type 0 where
@@ -28,7 +29,7 @@ pub record Midway {A W P E : Type 0} (step : A → W → List ℤ → P → A �
   pub holds : holding held since
   pub waits : waiting ≡ []
 
--- a whole frame stays whole where more bytes come after it
+-- a whole frame stays whole if more bytes follow it
 abbrev pub WholeOn : {W P E : Type 0} → Rules W P E → Type 0
 WholeOn {W} {P} {E} rules = (bytes rest more : List ℕ) (frame : Option (Want W E)) → rules.whole bytes frame rest
     → rules.whole (bytes ++ more) frame (rest ++ more)
@@ -49,7 +50,7 @@ begins step rules most holding at left held waiting some holds waits none =
       waits = waits;
     }
 
--- ---- what was answered before
+-- ---- what was answered earlier
 
 to_join : {A W P E : Type 0} (step : A → W → List ℤ → P → A → Type 0) (rules : Rules W P E) (start mid now : Progress A)
     (bytes since rest : List ℕ) (frames : List (Option (Want W E))) → AnswersTo step rules start bytes since mid
@@ -78,7 +79,7 @@ in_part_join step rules start mid now bytes since left first (frames, rest, want
   stopped_join step rules start mid now first.0 frames want first.2 stopped,
 )
 
--- ---- where more bytes are read
+-- ---- more bytes are read
 
 below_most : {A W P E : Type 0} (step : A → W → List ℤ → P → A → Type 0) (rules : Rules W P E) (most : ℕ)
     (holding : List ℕ → List ℕ → Type 0) (start : Progress A) (first left : Option (List ℕ)) (count : ℕ) (now : Progress A)
@@ -141,7 +142,7 @@ ends_at_limit step rules most holding then_holding start first mid left count n 
       );
     })
 
--- what is held of the bytes then
+-- what is held of the bytes after that
 pub holds_more : {A W P E : Type 0} (step : A → W → List ℤ → P → A → Type 0) (rules : Rules W P E) (most : ℕ)
     (holding then_holding : List ℕ → List ℕ → Type 0) (start : Progress A) (first mid left : Option (List ℕ)) (count n k room : ℕ)
     (now : Progress A) (held rest filled waiting then_waiting : List ℕ)
@@ -280,7 +281,7 @@ pub goes_of : {A W P E : Type 0} (step : A → W → List ℤ → P → A → Ty
 goes_of step rules before after None done answered = tt
 goes_of step rules before after (Some want) done answered = answered.0
 
--- what was answered of the frame that was meant, after which the session goes on
+-- what was answered is the frame that was meant, after which the session goes on
 ran_meant : {A W P E : Type 0} (takes : W → Type 0) (step : A → W → List ℤ → P → A → Type 0) (rules : Rules W P E)
     (before after : Progress A) (meant read : Option (Want W E)) (done : Unit {0}) → Fits takes step rules
     → AreMeant rules meant read → AnswersFrame step rules before read (Ok done) after
@@ -333,7 +334,7 @@ cut_off takes step rules start left now then bytes since rest meant read fault f
           (answers_meant takes step rules now then meant read (Err fault) fits are answered),
     )
 
--- how serving ends by a frame that was answered
+-- how serving ends with a frame that was answered
 ends_by : {A W P E : Type 0} (takes : W → Type 0) (step : A → W → List ℤ → P → A → Type 0) (rules : Rules W P E) (most : ℕ)
     (start : Progress A) (left : Option (List ℕ)) (now then : Progress A) (bytes since rest : List ℕ)
     (meant read : Option (Want W E)) (ended : Ended E) → Fits takes step rules → length bytes < most
@@ -387,7 +388,7 @@ ends_answering takes step rules most holding then_holding start first mid left c
           reads.are_meant answered;
     }
 
--- a frame is answered by no failed read
+-- answering a frame never ends with a failed read
 pub frame_unread : {A W P E : Type 0} (step : A → W → List ℤ → P → A → Type 0) (rules : Rules W P E) (before after : Progress A)
     (frame : Option (Want W E)) → AnswersFrame step rules before frame (Err Ended.ReadFault) after → ⊥
 frame_unread step rules before after None answered = answered
@@ -408,7 +409,7 @@ last_cut step rules start left now then bytes since want fault ended before begu
     in_part_join step rules start now then bytes since left before
     ([], since, want, refl, inr (ended, begun, ends), stopped_one step rules now then want fault answered)
 
--- how serving ends by what was left
+-- how serving ends with what was left
 ends_after : {A W P E : Type 0} (step : A → W → List ℤ → P → A → Type 0) (rules : Rules W P E) (most : ℕ)
     (start : Progress A) (left : Option (List ℕ)) (now then : Progress A) (bytes since : List ℕ) (frame : Option (Want W E))
     (ended : Ended E) → length bytes < most → IsAtEnd left → AnswersTo step rules start bytes since now → rules.begun since

@@ -6,13 +6,13 @@ use Rattle.lei_outside.specs.Links.{LinkTold, told_by}
 use Rattle.lei_outside.specs.Told.{Reads}
 use Rattle.lei_outside.proofs.Faulting.{Loses-nothing, fails_here}
 
--- its count of faults rose
+-- the device's count of faults rose
 pub fails_rose : {D T : Type 0} (told : D → T) (faults : D → ℕ) (before after : D) → FailsLast told faults before after
     → Rose (faults before) (faults after)
 fails_rose told faults before after fails =
     let R : ℕ → Type 0 = λ n. Rose n (faults after) in subst R fails.faultless fails.rose
 
--- a part of the device, as the source of a wire, that tells a part of what it tells
+-- the same for a part of the device, such as the source of a wire, that tells a part of what the device tells
 pub fails_at : {D E T U : Type 0} (told : D → T) (faults : D → ℕ) (part : D → E) (part_told : E → U) (part_faults : E → ℕ)
     (of : T → U) (before after : D) → ((d : D) → of (told d) ≡ part_told (part d))
     → ((d : D) → faults d ≡ part_faults (part d)) → FailsLast told faults before after

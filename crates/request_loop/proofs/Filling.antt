@@ -1,4 +1,4 @@
--- The bytes in the front of a buffer, where more come.
+-- The bytes at the front of a buffer when more are read.
 use Rattle.std.proofs.Common.{◌≡◌, ℕ, ◌+◌, ◌≤◌, List, ◌++◌, length, take, Option, Result, Ok, Err, IfOk, sym, ap, ◌∙◌, arith, append_assoc}
 use Rattle.std.proofs.lemmas.List.{take-take, take-append-le, length-take-le}
 use Rattle.std.proofs.Math.Seq.{take-append-add}
@@ -19,7 +19,7 @@ filled size held n items block rest beyond within some fits =
     ∙ ap (λ k. take (k + n) (front ++ all)) (sym long) ∙ take-append-add front all n
     ∙ ap (λ l. front ++ l) (take-append-le n block (rest ++ beyond) some)
 
--- and so a read that gives n bytes fills the buffer after what is held
+-- so a read that gives n bytes fills the buffer after what is held
 pub fills : {E : Type 0} (before after : Option (List ℕ)) (result : Result ℕ E) (size held most : ℕ)
     (start items block rest beyond : List ℕ) → take held items ≡ start
     → held ≤ length items → held + length block ≤ size → length block ≤ most → Reads before after result block

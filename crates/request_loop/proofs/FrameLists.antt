@@ -1,9 +1,9 @@
--- Frames one after the other.
+-- Consecutive frames.
 use Rattle.std.proofs.Common.{◌≡◌, ℕ, List, [], ◌∷◌, ◌++◌, length, Option, None, Some, refl, sym, ap, ◌∙◌, subst, append_assoc, arith}
 use Rattle.request_loop.specs.Frames.{AreRefused, Frames, GoesOn, Rules, asks_of, texts_of}
 use Rattle.request_loop.specs.declared.frames.Want.{Want}
 
--- whole frames stay where more bytes come
+-- whole frames stay whole if more bytes follow
 pub frames_more : {W P E : Type 0} (rules : Rules W P E)
     → ((bytes rest more : List ℕ) (frame : Option (Want W E)) → rules.whole bytes frame rest
     → rules.whole (bytes ++ more) frame (rest ++ more))
@@ -29,7 +29,7 @@ asks_join [] more = refl
 asks_join (None ∷ frames) more = asks_join frames more
 asks_join {W} (Some want ∷ frames) more = ap (λ (l : List W). want.asked ∷ l) (asks_join frames more)
 
--- the texts of the replies to frames, and to more of them
+-- the texts of the replies to frames, followed by those to more frames
 pub texts_join : {W P E : Type 0} (rules : Rules W P E) (frames more : List (Option (Want W E))) (replies others : List P)
     → length replies ≡ length (asks_of frames)
     → texts_of rules (frames ++ more) (replies ++ others) ≡ texts_of rules frames replies ++ texts_of rules more others
@@ -55,7 +55,7 @@ refused_join rules (Some want ∷ frames) more [] others first second = absurd f
 refused_join rules (Some want ∷ frames) more (reply ∷ replies) others first second =
     (first.0, refused_join rules frames more replies others first.1 second)
 
--- each ask has its reply
+-- each frame that asks something has its reply
 pub refused_length : {W P E : Type 0} (rules : Rules W P E) (frames : List (Option (Want W E))) (replies : List P)
     → AreRefused rules frames replies → length replies ≡ length (asks_of frames)
 refused_length rules [] [] are = refl
@@ -65,7 +65,7 @@ refused_length rules (Some want ∷ frames) [] are = absurd are
 refused_length rules (Some want ∷ frames) (reply ∷ replies) are =
     let rest : length replies ≡ length (asks_of frames) = refused_length rules frames replies are.1 in omega (arith, rest)
 
--- and so their texts join
+-- so their texts can be appended
 pub refused_texts : {W P E : Type 0} (rules : Rules W P E) (frames more : List (Option (Want W E))) (replies others : List P)
     → AreRefused rules frames replies
     → texts_of rules (frames ++ more) (replies ++ others) ≡ texts_of rules frames replies ++ texts_of rules more others

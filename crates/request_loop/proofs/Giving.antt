@@ -1,4 +1,4 @@
--- Moments that a clock gives, in steps.
+-- Moments that a clock gives, over several calls.
 use Rattle.std.proofs.Common.{ℤ, List, [], ◌∷◌, ◌++◌, Option, Some, None, sym, ap, ◌∙◌, append_assoc}
 use Rattle.std.proofs.lemmas.List.{append-nil}
 use Rattle.std.proofs.lemmas.List.Elements.{All-append, All-cons, All-nil}
@@ -25,7 +25,7 @@ ClockGives-none u = record { told = Gave-none u; range = All-nil IsClockMoment }
 pub ClockGives-one : (u v : Option (List ℤ)) (m : ℤ) → Gave u v (m ∷ []) → IsClockMoment m → ClockGives u v (m ∷ [])
 ClockGives-one u v m told range = record { told = told; range = All-cons IsClockMoment m [] range (All-nil IsClockMoment) }
 
--- giving twice is giving both
+-- the moments of two calls are those of both, in order
 pub ClockGives-join : (u v w : Option (List ℤ)) (xs ys : List ℤ) → ClockGives u v xs → ClockGives v w ys
     → ClockGives u w (xs ++ ys)
 ClockGives-join u v w xs ys a b = record

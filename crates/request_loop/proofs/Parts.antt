@@ -1,4 +1,4 @@
--- What serving did, as it is for a part of the answerer.
+-- What serving did, seen for a part of the answerer.
 use Rattle.std.proofs.Common.{inl, inr, ℕ, ℤ, List, [], ◌∷◌, ◌++◌, Option, Some}
 use Rattle.request_loop.specs.Frames.{Rules, asks_of}
 use Rattle.request_loop.specs.Serving.{AnswersAll, AnswersInPart, AnswersToEnd, AnswersToLast, Completes, EndsWith, Progress, Ran, Serves, Stopped}
@@ -6,11 +6,11 @@ use Rattle.request_loop.specs.declared.frames.Ended.{Ended}
 use Rattle.request_loop.specs.declared.frames.Want.{Want}
 use Rattle.request_loop.proofs.Sessions.{session-through}
 
--- the progress, of this part
+-- the progress with this part of the answerer
 abbrev pub progress_of : {A B : Type 0} → (A → B) → Progress A → Progress B
 progress_of part at = record { who = part at.who; given = at.given; written = at.written }
 
--- each step is one of the part
+-- each step of the answerer is a step of the part
 abbrev pub StepsOf : {A B W P : Type 0} → (A → W → List ℤ → P → A → Type 0) → (A → B) → (B → W → List ℤ → P → B → Type 0)
     → Type 0
 StepsOf {A} {B} {W} {P} step part part_step = (old new : A) (ask : W) (moments : List ℤ) (reply : P)

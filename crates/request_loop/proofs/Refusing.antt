@@ -1,4 +1,4 @@
--- Frames that the framing refuses, and those of them whose replies a front of all the bytes belongs to.
+-- Frames that the framing refuses, and which of them have replies in a prefix of the bytes of all replies.
 use Rattle.std.proofs.Common.{◌≡◌, ◌⊎◌, inl, inr, ℕ, ℤ, ◌+◌, ◌-◌, ◌<◌, ◌≤◌, List, [], ◌∷◌, ◌++◌, length, take, Bool, true, false, Option, None, Some, refl, sym, ap, ◌∙◌, subst, append_assoc, arith, length-append}
 use Rattle.std.specs.Prelude.{nat_lt}
 use Rattle.std.proofs.lemmas.List.{take-append-le}
@@ -11,11 +11,11 @@ use Rattle.request_loop.specs.Sessions.{Session}
 use Rattle.request_loop.specs.declared.frames.Want.{Want}
 use Rattle.request_loop.proofs.Giving.{ClockGives-none}
 
--- the progress, but for what was written
+-- the progress with other written bytes
 abbrev pub written_so : {A : Type 0} → Progress A → Option (List ℕ) → Progress A
 written_so at written = record at { written = written }
 
--- they take no moment, and leave the answerer as it is
+-- refused frames take no moment, and leave the answerer as it is
 refused_session : {A W P E : Type 0} (takes : W → Type 0) (step : A → W → List ℤ → P → A → Type 0) (rules : Rules W P E)
     (who : A) (frames : List (Option (Want W E))) (replies : List P) → Fits takes step rules
     → AreRefused rules frames replies → Session step who (asks_of frames) [] replies who
@@ -45,9 +45,9 @@ ran_refused takes step rules before written frames replies fits are grows = reco
   writes = grows;
 }
 
--- ---- a front of their replies
+-- ---- a prefix of their replies
 
--- so many of the bytes are the replies to a front of the frames, and a front of the reply to the next
+-- the first n bytes are the replies to the first of the frames, followed by a proper prefix of the reply to the next
 record PartOf {A W P E : Type 0} (step : A → W → List ℤ → P → A → Type 0) (rules : Rules W P E) (who : A)
     (bytes texts : List ℕ) (n : ℕ) : Type 0 where
   frames : List (Option (Want W E))
@@ -63,7 +63,7 @@ record PartOf {A W P E : Type 0} (step : A → W → List ℤ → P → A → Ty
   short : part < length (rules.text want reply)
   front : take n texts ≡ texts_of rules frames replies ++ take part (rules.text want reply)
 
--- a place in a list, or after it
+-- a place in a list, or one after its end
 within_or_after : (test : Bool) (n len : ℕ) → nat_lt n len ≡ test → (n < len) ⊎ ((m : ℕ) × (n ≡ len + m))
 within_or_after true n len is = let within : n < len = grind (arith, nat_tests) in inl within
 within_or_after false n len is = let after : len ≤ n = grind (arith, nat_tests) in inr (n - len, omega arith)

@@ -13,14 +13,14 @@ use Rattle.request_loop.proofs.FrameLists.{asks_join, texts_join}
 use Rattle.request_loop.proofs.Giving.{ClockGives-none, ClockGives-join}
 use Rattle.request_loop.proofs.Sessions.{session-join, session-length, session-one}
 
--- each ask has its reply
+-- each frame that asks something has its reply
 pub replies-of : {A W P E : Type 0} (step : A → W → List ℤ → P → A → Type 0) (rules : Rules W P E) (start : Progress A)
     (frames : List (Option (Want W E))) (now : Progress A) → (ran : Ran step rules start frames now)
     → length ran.replies ≡ length (asks_of frames)
 replies-of step rules start frames now ran =
     session-length step start.who now.who (asks_of frames) ran.moments ran.replies ran.session
 
--- a session of what frames ask, and of what more of them ask
+-- a session of what frames ask, and then of what more frames ask
 session-frames : {A W P E : Type 0} (step : A → W → List ℤ → P → A → Type 0) (old mid new : A)
     (frames more : List (Option (Want W E))) (xs ys : List ℤ) (replies others : List P)
     → Session step old (asks_of frames) xs replies mid → Session step mid (asks_of more) ys others new
@@ -70,7 +70,7 @@ ran_none {A} step rules before after same =
       writes = Grows-none before.written;
     })
 
--- a reply that was written whole
+-- a reply that was written in full
 pub ran_one : {A W P E : Type 0} (step : A → W → List ℤ → P → A → Type 0) (rules : Rules W P E) (before after : Progress A)
     (want : Want W E) (done : Unit {0}) → AnswersWant step rules before want (Ok done) after
     → Ran step rules before (Some want ∷ []) after
@@ -84,7 +84,7 @@ ran_one step rules before after want done answered =
       writes = subst G (sym (append-nil (rules.text want answered.reply))) answered.writes;
     }
 
--- a reply of which a front was written
+-- a reply of which only a prefix was written
 pub stopped_one : {A W P E : Type 0} (step : A → W → List ℤ → P → A → Type 0) (rules : Rules W P E)
     (before after : Progress A) (want : Want W E) (fault : SinkFault) → AnswersWant step rules before want (Err fault) after
     → Stopped step rules before [] want after
@@ -133,7 +133,7 @@ stopped_join {A} {W} {P} {E} step rules start mid now frames more want first sec
           first.writes second.writes);
     }
 
--- ---- what was read in the place of what was meant
+-- ---- what was read instead of what was meant
 
 step_meant : {A W P E : Type 0} (takes : W → Type 0) (step : A → W → List ℤ → P → A → Type 0) (rules : Rules W P E)
     (old new : A) (meant read : W) (moments : List ℤ) (reply : P) → Fits takes step rules

@@ -1,11 +1,11 @@
--- What is sent in pieces.
+-- Sending in pieces.
 use Rattle.std.proofs.Common.{ℕ, ◌+◌, ◌<◌, List, ◌++◌, length, take, Option, Result, Ok, Err, sym, subst, arith, length-append}
 use Rattle.std.proofs.Math.Seq.{take-append-add}
 use Rattle.lei_outside.specs.Told.{Grows}
 use Rattle.lei_outside.proofs.Told.{Grows-join}
 use Rattle.request_loop.specs.Wires.{IsSent}
 
--- a piece was written, and one after it or a front of it
+-- a piece was written, and then another one or a prefix of it
 pub sent_then : {T E : Type 0} (a b c : Option (List ℕ)) (xs ys : List ℕ) (result : Result T E) → Grows a b xs
     → IsSent b c ys result → IsSent a c (xs ++ ys) result
 sent_then a b c xs ys (Ok done) first second = Grows-join a b c xs ys first second

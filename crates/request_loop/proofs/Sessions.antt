@@ -1,9 +1,9 @@
--- Sessions that are joined, and what holds of each step.
+-- Sessions that are joined, and properties that each step has.
 use Rattle.std.proofs.Common.{◌≡◌, ℤ, List, [], ◌∷◌, ◌++◌, length, refl, sym, ap, ◌∙◌, subst, append_assoc, arith}
 use Rattle.std.proofs.lemmas.List.{append-nil}
 use Rattle.request_loop.specs.Sessions.{Session}
 
--- what was asked after it
+-- a session, and then another
 pub session-join : {A W P : Type 0} (step : A → W → List ℤ → P → A → Type 0) (old mid new : A) (asks more : List W)
     (xs ys : List ℤ) (replies others : List P) → Session step old asks xs replies mid → Session step mid more ys others new
     → Session step old (asks ++ more) (xs ++ ys) (replies ++ others) new
@@ -22,7 +22,7 @@ session-join step old mid new (ask ∷ asks) more xs ys (reply ∷ replies) othe
   session-join step first.2 mid new asks more first.1 ys replies others first.5 second,
 )
 
--- each ask has its reply
+-- what is asked has one reply each
 pub session-length : {A W P : Type 0} (step : A → W → List ℤ → P → A → Type 0) (old new : A) (asks : List W)
     (moments : List ℤ) (replies : List P) → Session step old asks moments replies new → length replies ≡ length asks
 session-length step old new [] moments [] session = refl
@@ -36,7 +36,7 @@ pub session-one : {A W P : Type 0} (step : A → W → List ℤ → P → A → 
     (reply : P) → step old ask moments reply new → Session step old (ask ∷ []) moments (reply ∷ []) new
 session-one step old new ask moments reply made = (moments, [], new, sym (append-nil moments), made, (refl, refl))
 
--- what each step keeps, a session keeps
+-- what each step preserves, a session preserves
 pub session-keeps : {A W P : Type 0} (step : A → W → List ℤ → P → A → Type 0) (keeps : A → A → Type 0)
     → ((who : A) → keeps who who) → ((old mid new : A) → keeps old mid → keeps mid new → keeps old new)
     → ((old new : A) (ask : W) (moments : List ℤ) (reply : P) → step old ask moments reply new → keeps old new)
@@ -50,7 +50,7 @@ session-keeps step keeps none join each old new (ask ∷ asks) moments (reply �
     join old session.2 new (each old session.2 ask session.0 reply session.4)
     (session-keeps step keeps none join each session.2 new asks session.1 replies session.5)
 
--- a session of steps is one of what these steps are for a part of the answerer
+-- if the steps are steps of a part of the answerer, a session is a session of that part
 pub session-through : {A B W P : Type 0} (step : A → W → List ℤ → P → A → Type 0) (part : A → B)
     (part_step : B → W → List ℤ → P → B → Type 0)
     → ((old new : A) (ask : W) (moments : List ℤ) (reply : P) → step old ask moments reply new

@@ -5,44 +5,44 @@ use Rattle.request_loop.specs.declared.frames.Want.{Want}
 
 -- ---- the rules of a framing
 
--- How bytes are cut into frames, and which bytes a reply is written as.
+-- How bytes are cut into frames, and which bytes are written for a reply.
 pub record Rules (W P E : Type 0) : Type 1 where
-  -- the bytes begin with a whole frame, which wants this or nothing, and go on with these
+  -- the bytes start with a whole frame, which wants this or nothing, and continue with these
   pub whole : List ℕ → Option (Want W E) → List ℕ → Type 0
-  -- the bytes begin a frame that isn't whole yet, or there are none
+  -- the bytes are the start of a frame that isn't whole yet, or there are none
   pub begun : List ℕ → Type 0
-  -- where the input ends with these bytes, they want this or nothing
+  -- if the input ends with these bytes, they want this or nothing
   pub ends : List ℕ → Option (Want W E) → Type 0
-  -- where there is no memory to read what the first asks, the second may be read in its place
+  -- if there is no memory to read what the first asks, the second may be read instead
   pub reads_as : W → W → Type 0
-  -- the framing refuses by itself what is asked, by this reply
+  -- the framing itself refuses what is asked, by this reply
   pub refuses : W → P → Type 0
   -- the bytes of a reply to what was wanted
   pub text : Want W E → P → List ℕ
 
--- What a frame wants, and what was read in its place: what it asks is the same or may be read so, it ends the session
--- alike, and each reply to it is written alike.
+-- What a frame wants, and what was read instead. The two ask the same, or the second may be read instead of the first.
+-- They end the session alike, and each reply to them is written alike.
 pub record IsMeant {W P E : Type 0} (rules : Rules W P E) (meant read : Want W E) : Type 0 where
   pub asked : (read.asked ≡ meant.asked) ⊎ rules.reads_as meant.asked read.asked
   pub ends : read.ends ≡ meant.ends
   pub text : (reply : P) → rules.text read reply ≡ rules.text meant reply
 
--- Both want nothing, or what the one wants was read as the other.
+-- Both want nothing, or the second was read instead of the first.
 abbrev pub AreMeant : {W P E : Type 0} → Rules W P E → Option (Want W E) → Option (Want W E) → Type 0
 AreMeant rules None None = Unit {0}
 AreMeant rules None (Some read) = ⊥
 AreMeant rules (Some meant) None = ⊥
 AreMeant rules (Some meant) (Some read) = IsMeant rules meant read
 
--- ---- frames one after the other
+-- ---- consecutive frames
 
 -- A frame after which the session goes on.
 abbrev pub GoesOn : {W E : Type 0} → Option (Want W E) → Type 0
 GoesOn None = Unit {0}
 GoesOn (Some want) = want.ends ≡ None
 
--- The bytes begin with these whole frames, one after the other, after each of which the session goes on, and go on with
--- the rest.
+-- The bytes start with these whole frames, one after the other, and continue with the rest. The session goes on after
+-- each of them.
 abbrev pub Frames : {W P E : Type 0} → Rules W P E → List ℕ → List (Option (Want W E)) → List ℕ → Type 0
 Frames rules bytes [] rest = bytes ≡ rest
 Frames rules bytes (frame ∷ frames) rest =
@@ -54,14 +54,14 @@ asks_of [] = []
 asks_of (None ∷ frames) = asks_of frames
 asks_of (Some want ∷ frames) = want.asked ∷ asks_of frames
 
--- The bytes of the replies to them, in order.
+-- The bytes of the replies to frames, in order.
 abbrev pub texts_of : {W P E : Type 0} → Rules W P E → List (Option (Want W E)) → List P → List ℕ
 texts_of rules [] replies = []
 texts_of rules (None ∷ frames) replies = texts_of rules frames replies
 texts_of rules (Some want ∷ frames) [] = []
 texts_of rules (Some want ∷ frames) (reply ∷ replies) = rules.text want reply ++ texts_of rules frames replies
 
--- The framing refuses by itself what these frames ask, by these replies.
+-- The framing itself refuses what these frames ask, by these replies.
 abbrev pub AreRefused : {W P E : Type 0} → Rules W P E → List (Option (Want W E)) → List P → Type 0
 AreRefused rules [] [] = Unit {0}
 AreRefused rules [] (reply ∷ replies) = ⊥
@@ -72,7 +72,8 @@ AreRefused rules (Some want ∷ frames) (reply ∷ replies) =
 
 -- ---- what is read at the front
 
--- No frame is whole: the bytes begin one. So many of the held bytes aren't needed any more, whatever comes after them.
+-- No frame is whole: the bytes are at most the start of one. This many of the held bytes aren't needed any more,
+-- whatever bytes follow.
 pub record ReadsMore {W P E : Type 0} (rules : Rules W P E) (holding : List ℕ → List ℕ → Type 0)
     (bytes held waiting : List ℕ) (count : ℕ) : Type 0 where
   pub within : count ≤ length held
@@ -80,8 +81,8 @@ pub record ReadsMore {W P E : Type 0} (rules : Rules W P E) (holding : List ℕ 
   pub holds : (more : List ℕ) → holding (drop count held ++ more) (bytes ++ more)
   pub waits : waiting ≡ []
 
--- The bytes begin with frames that ask nothing or that the framing refuses, and so many held bytes are the end of
--- theirs. What waits to be sent are the bytes of the replies.
+-- The bytes start with frames that ask nothing or that the framing refuses, and this many held bytes are their end. The
+-- bytes that wait to be sent are those of the replies.
 pub record ReadsRefused {W P E : Type 0} (rules : Rules W P E) (holding : List ℕ → List ℕ → Type 0)
     (bytes held waiting : List ℕ) (count : ℕ) : Type 0 where
   pub within : count ≤ length held
@@ -93,7 +94,7 @@ pub record ReadsRefused {W P E : Type 0} (rules : Rules W P E) (holding : List �
   pub holds : holding (drop count held) (drop count held)
   pub waits : waiting ≡ texts_of rules frames replies
 
--- The bytes begin with a whole frame, and so many held bytes are the end of its own. What it wants was read.
+-- The bytes start with a whole frame, and this many held bytes are its end. What it wants was read.
 pub record ReadsWhole {W P E : Type 0} (rules : Rules W P E) (holding : List ℕ → List ℕ → Type 0)
     (bytes held waiting : List ℕ) (read : Option (Want W E)) (count : ℕ) : Type 0 where
   pub within : count ≤ length held
@@ -104,7 +105,7 @@ pub record ReadsWhole {W P E : Type 0} (rules : Rules W P E) (holding : List ℕ
   pub holds : holding (drop count held) (drop count held)
   pub waits : waiting ≡ []
 
--- What was read at the front of bytes of which these are held.
+-- What was read at the front of bytes, of which these are held.
 abbrev pub ReadsFront : {W P E : Type 0} → Rules W P E → (List ℕ → List ℕ → Type 0) → List ℕ → List ℕ → List ℕ
     → Front W E → Type 0
 ReadsFront rules holds waiting bytes held (Front.More count) = ReadsMore rules holds bytes held waiting count
@@ -115,8 +116,9 @@ ReadsFront rules holds waiting bytes held (Front.Whole read count) = ReadsWhole 
 
 -- ---- frames and an answerer
 
--- What frames ask may be put to the answerer, also what is read in its place, which is answered as what was meant may
--- be. What the framing refuses the answerer would answer so, at no moment, and stays as it is.
+-- What frames ask may be put to the answerer, and so may what is read instead. Each answer to what is read instead is
+-- also one to what was meant. To what the framing refuses, the answerer can give the same reply, at no moment and
+-- unchanged.
 pub record Fits {A W P E : Type 0} (takes : W → Type 0) (step : A → W → List ℤ → P → A → Type 0)
     (rules : Rules W P E) : Type 0 where
   pub whole : (bytes : List ℕ) (want : Want W E) (rest : List ℕ) → rules.whole bytes (Some want) rest

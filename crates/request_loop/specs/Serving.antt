@@ -16,19 +16,19 @@ read_limit = 65_536
 
 -- ---- what was answered
 
--- How far serving has come: who answers, the moments that the clock has given, and the bytes that were written. For a
--- device that doesn't tell it, `None` stands.
+-- The progress of serving: the answerer, the moments that the clock has given, and the bytes that were written. It has
+-- `None` for what a device doesn't tell.
 pub record Progress (A : Type 0) : Type 0 where
   pub who : A
   pub given : Option (List ℤ)
   pub written : Option (List ℕ)
 
--- The progress of these three.
+-- The progress with these three parts.
 abbrev pub progress : {A : Type 0} → A → Option (List ℤ) → Option (List ℕ) → Progress A
 progress who given written = record { who = who; given = given; written = written }
 
--- From the start on these frames were answered, in order, at moments of the clock, by steps from one state of the
--- answerer to another. What was written are the replies, in order.
+-- Since the start these frames were answered, in order, at moments of the clock, by steps from one state of the
+-- answerer to the next. The bytes that were written are those of the replies, in order.
 pub record Ran {A W P E : Type 0} (step : A → W → List ℤ → P → A → Type 0) (rules : Rules W P E)
     (start : Progress A) (frames : List (Option (Want W E))) (now : Progress A) : Type 0 where
   pub moments : List ℤ
@@ -37,7 +37,7 @@ pub record Ran {A W P E : Type 0} (step : A → W → List ℤ → P → A → T
   pub session : Session step start.who (asks_of frames) moments replies now.who
   pub writes : Grows start.written now.written (texts_of rules frames replies)
 
--- The same, and after these frames what one more wants: of the reply to it a front alone was written, and not all.
+-- The same, and after these frames what one more wants. Only a proper prefix of the reply to it was written.
 pub record Stopped {A W P E : Type 0} (step : A → W → List ℤ → P → A → Type 0) (rules : Rules W P E)
     (start : Progress A) (frames : List (Option (Want W E))) (want : Want W E)
     (now : Progress A) : Type 0 where
@@ -54,7 +54,7 @@ pub record Stopped {A W P E : Type 0} (step : A → W → List ℤ → P → A �
 
 -- ---- by the bytes that were taken
 
--- The whole frames in front of the bytes were answered up to this rest, and the session goes on.
+-- The whole frames at the front of the bytes were answered up to this rest, and the session goes on.
 abbrev pub AnswersTo : {A W P E : Type 0} → (A → W → List ℤ → P → A → Type 0) → Rules W P E
     → Progress A → List ℕ → List ℕ → Progress A → Type 0
 AnswersTo {A} {W} {P} {E} step rules start bytes rest now =
@@ -66,7 +66,7 @@ abbrev pub AnswersAll : {A W P E : Type 0} → (A → W → List ℤ → P → A
 AnswersAll step rules start bytes now =
     (rest : List ℕ) × AnswersTo step rules start bytes rest now × rules.begun rest
 
--- All whole frames of the bytes were answered, and what is left after them where the input ends.
+-- All whole frames of the bytes were answered, and so was what is left after them when the input ends.
 abbrev pub AnswersToEnd : {A W P E : Type 0} → (A → W → List ℤ → P → A → Type 0) → Rules W P E
     → Progress A → List ℕ → Progress A → Type 0
 AnswersToEnd {A} {W} {P} {E} step rules start bytes now =
@@ -74,7 +74,7 @@ AnswersToEnd {A} {W} {P} {E} step rules start bytes now =
     × Frames rules bytes frames rest × rules.begun rest × rules.ends rest frame
     × Ran step rules start (frames ++ frame ∷ []) now
 
--- The whole frames of the bytes were answered up to the first that ends the session, and with it.
+-- The whole frames of the bytes were answered up to and including the first that ends the session.
 abbrev pub AnswersToLast : {A W P E : Type 0} → (A → W → List ℤ → P → A → Type 0) → Rules W P E
     → E → Progress A → List ℕ → Progress A → Type 0
 AnswersToLast {A} {W} {P} {E} step rules end start bytes now =
@@ -82,21 +82,22 @@ AnswersToLast {A} {W} {P} {E} step rules end start bytes now =
     × Frames rules bytes frames rest × rules.whole rest (Some want) after × (want.ends ≡ Some end)
     × Ran step rules start (frames ++ Some want ∷ []) now
 
--- A frame of these bytes wants this: they begin with a whole one, or the input ends with them.
+-- A frame of these bytes wants this: they start with a whole one, or the input ends with them.
 abbrev pub Wants : {W P E : Type 0} → Rules W P E → Option (List ℕ) → List ℕ → Want W E → Type 0
 Wants rules left bytes want =
     ((after : List ℕ) × rules.whole bytes (Some want) after)
     ⊎ (IsAtEnd left × rules.begun bytes × rules.ends bytes (Some want))
 
--- Some whole frames in front of the bytes were answered, and of the reply to the next one a front alone was written.
+-- Some whole frames at the front of the bytes were answered, and only a proper prefix of the reply to the next one was
+-- written.
 abbrev pub AnswersInPart : {A W P E : Type 0} → (A → W → List ℤ → P → A → Type 0) → Rules W P E
     → Progress A → List ℕ → Option (List ℕ) → Progress A → Type 0
 AnswersInPart {A} {W} {P} {E} step rules start bytes left now =
     (frames : List (Option (Want W E))) × (rest : List ℕ) × (want : Want W E)
     × Frames rules bytes frames rest × Wants rules left rest want × Stopped step rules start frames want now
 
--- The bytes were as many as end a session, and of those before some last ones, at most as many as one read gives, all
--- whole frames were answered.
+-- The bytes are as many as end a session. They end with at least one and at most as many as one read gives, and all
+-- whole frames before these last bytes were answered.
 abbrev pub AnswersToLimit : {A W P E : Type 0} → (A → W → List ℤ → P → A → Type 0) → Rules W P E
     → ℕ → Progress A → List ℕ → Progress A → Type 0
 AnswersToLimit step rules most start bytes now =
@@ -105,7 +106,7 @@ AnswersToLimit step rules most start bytes now =
 
 -- ---- how serving ends
 
--- How serving ends whose bytes were these, with so many left.
+-- How serving ends after these bytes were taken, with these left.
 abbrev pub EndsWith : {A W P E : Type 0} → (A → W → List ℤ → P → A → Type 0) → Rules W P E → ℕ → Ended E
     → Progress A → List ℕ → Option (List ℕ) → Progress A → Type 0
 EndsWith step rules most Ended.AtEnd start bytes left now =
@@ -122,7 +123,7 @@ EndsWith step rules most Ended.NoMemory start bytes left now =
     (length bytes < most)
     × (AnswersAll step rules start bytes now ⊎ AnswersInPart step rules start bytes left now)
 
--- What serving does: it takes bytes from the wire, answers the frames that they are, and ends.
+-- What serving does: it takes bytes from the wire, answers the frames in them, and ends.
 pub record Serves {A W P E : Type 0} (step : A → W → List ℤ → P → A → Type 0) (rules : Rules W P E) (most : ℕ)
     (start : Progress A) (left : Option (List ℕ)) (now : Progress A) (left_now : Option (List ℕ))
     (ended : Ended E) : Type 0
@@ -131,9 +132,9 @@ pub record Serves {A W P E : Type 0} (step : A → W → List ℤ → P → A �
     pub takes : Loses left left_now bytes
     pub ends : EndsWith step rules most ended start bytes left_now now
 
--- What comes of a wire that has these bytes left, where neither of its sides fails and memory is never wanting: they
--- were all taken and answered, or those up to the first frame that ends the session; or they are as many as end a
--- session.
+-- The result of serving a wire with these bytes left, if neither of its sides fails and memory never runs out. All
+-- bytes were taken and answered, or those up to the first frame that ends the session. Or there are at least as many
+-- bytes as end a session.
 abbrev pub Completes : {A W P E : Type 0} → (A → W → List ℤ → P → A → Type 0) → Rules W P E → ℕ → Ended E
     → Progress A → List ℕ → Progress A → Type 0
 Completes step rules most Ended.AtEnd start bytes now =
@@ -144,10 +145,10 @@ Completes step rules most Ended.WriteFault start bytes now = ⊥
 Completes step rules most Ended.InputLimit start bytes now = most ≤ length bytes
 Completes step rules most Ended.NoMemory start bytes now = ⊥
 
--- ---- inside
+-- ---- parts of a session
 
--- What was wanted got its reply, by one step, at moments of the clock, and the reply was written; or a front of it, and
--- not all.
+-- What was wanted got its reply, by one step, at moments of the clock. The reply was written, or only a proper prefix
+-- of it.
 pub record AnswersWant {A W P E : Type 0} (step : A → W → List ℤ → P → A → Type 0) (rules : Rules W P E)
     (before : Progress A) (want : Want W E) (sent : Result (Unit {0}) SinkFault)
     (after : Progress A) : Type 0 where
@@ -174,7 +175,7 @@ AnswersFrame step rules before (Some want) (Err Ended.InputLimit) after = ⊥
 AnswersFrame step rules before (Some want) (Err Ended.NoMemory) after =
     AnswersWant step rules before want (Err SinkFault.NoMemory) after
 
--- What is left where the input ends was answered, and serving ends.
+-- What is left when the input ends was answered, and serving ends.
 abbrev pub AnswersLast : {A W P E : Type 0} → (A → W → List ℤ → P → A → Type 0) → Rules W P E → Progress A
     → Option (Want W E) → Ended E → Progress A → Type 0
 AnswersLast step rules before None Ended.AtEnd after = after ≡ before
@@ -193,12 +194,12 @@ AnswersLast step rules before (Some want) Ended.InputLimit after = ⊥
 AnswersLast step rules before (Some want) Ended.NoMemory after =
     AnswersWant step rules before want (Err SinkFault.NoMemory) after
 
--- How serving ends where nothing could be read.
+-- How serving ends if nothing could be read.
 abbrev pub ended_unread : {E : Type 0} → ReadFault → Ended E
 ended_unread ReadFault.Failed = Ended.ReadFault
 ended_unread ReadFault.NoMemory = Ended.NoMemory
 
--- How serving ends where a reply couldn't be written.
+-- How serving ends if a reply couldn't be written.
 abbrev pub ended_unsent : {E : Type 0} → SinkFault → Ended E
 ended_unsent SinkFault.Failed = Ended.WriteFault
 ended_unsent SinkFault.NoMemory = Ended.NoMemory

@@ -1,8 +1,8 @@
--- Sessions with whoever answers: what was asked one after the other, and what came of it.
+-- Sessions with an answerer: what was asked, one after the other, and the replies.
 use Rattle.std.specs.Prelude.{◌≡◌, ℤ, List, [], ◌∷◌, ◌++◌, Option}
 use Rattle.request_loop.specs.Moments.{ClockGives}
 
--- These replies answer what was asked, in order, at these moments, by steps from one state of the answerer to another.
+-- These replies answer what was asked, in order, at these moments, by steps from one state of the answerer to the next.
 abbrev pub Session : {A W P : Type 0} → (A → W → List ℤ → P → A → Type 0) → A → List W → List ℤ
     → List P → A → Type 0
 Session step old [] moments [] new = (moments ≡ []) × (new ≡ old)

@@ -1,4 +1,4 @@
-//! Frames that are answered.
+//! How frames are answered.
 ghost use Rattle.std.specs.Prelude.{◌≡◌, ℕ, List, IfSome, IsErrOf};
 ghost use Rattle.lei_outside.specs.Faults.{FailsLast};
 ghost use Rattle.lei_outside.specs.Links.{told_by};
@@ -37,7 +37,7 @@ fn answer<R, A: Answers<R>, F: Framing<Asked = A::Asked, Reply = A::Reply>, L: W
     framing.send(want, &reply, link)
 }
 
-/// Answers what a whole frame wants, if anything. Where the session ends, the error says how.
+/// Answers what a whole frame wants, if anything. If the session ends, the error says how.
 pub fn answer_frame<
     R,
     A: Answers<R>,
@@ -77,7 +77,7 @@ pub fn answer_frame<
     }
 }
 
-/// Answers what is left where the input ends, if anything, and says how serving ends.
+/// Answers what is left when the input ends, if anything, and returns how serving ends.
 pub fn answer_last<
     R,
     A: Answers<R>,
@@ -112,14 +112,14 @@ pub fn answer_last<
     }
 }
 
-// How the session ends after what was wanted.
+// How the session ends after the reply, if it does.
 fn end_of<W: Drop, E: Drop>(want: Want<W, E>) -> Option<E>
     ensures { result ≡ want.ends }
 {
     want.ends
 }
 
-/// How serving ends where a reply couldn't be written.
+/// How serving ends if a reply couldn't be written.
 pub fn ended_unsent<E>(fault: SinkFault) -> Ended<E>
     ensures { result ≡ ended_unsent fault }
 {

@@ -1,11 +1,11 @@
-//! Who answers.
+//! The trait of an answerer.
 ghost use Rattle.std.specs.Prelude.{ℤ, List};
 ghost use Rattle.request_loop.specs.Sessions.{Replies};
 
 use lei_outside::Clock;
 
-/// Who answers what is asked, by a runtime of type `R`. A function that is generic over an answerer has no bound of its
-/// own on `R`, so it returns wherever the answerer does.
+/// An answerer, which answers what is asked on a runtime of type `R`. A function that is generic over an answerer has
+/// no bound of its own on `R`, so it returns if the answerer does.
 pub trait Answers<R> {
     type Asked: Drop;
 
@@ -14,7 +14,7 @@ pub trait Answers<R> {
     /// What may be asked.
     ghost takes: { Self.Asked → Type 0 };
 
-    /// What was asked got this reply, at these moments, and led from one state of the answerer to another.
+    /// What was asked got this reply, at these moments, and changed the answerer from the first state to the second.
     ghost step: { Self → Self.Asked → List ℤ → Self.Reply → Self → Type 0 };
 
     /// Answers what is asked, by one step, at moments that the clock gives.

@@ -1,21 +1,21 @@
-//! What is read of bytes, and how serving ends.
+//! What a framing reads in bytes, and how serving ends.
 
-/// What a frame wants: what it asks, and how the session ends after the reply to it, if it does.
+/// What a frame wants: what it asks, and how the session ends after the reply to it, if the session ends.
 #[derive(Drop)]
 pub struct Want<W, E> {
     pub asked: W,
     pub ends: Option<E>,
 }
 
-/// What stands at the front of the bytes that are held.
+/// What is at the front of the bytes that are held.
 #[derive(Drop)]
 pub enum Front<W, E> {
-    /// No whole frame. So many of the held bytes aren't needed any more, and more have to be read.
+    /// No whole frame. This many of the held bytes aren't needed any more, and more bytes have to be read.
     More(usize),
-    /// So many bytes of whole frames, which the framing refuses by itself or which ask nothing. It has the bytes of the
-    /// replies, which wait to be sent.
+    /// This many held bytes belong to whole frames that the framing itself refuses or that ask nothing. The framing has
+    /// the bytes of the replies, which wait to be sent.
     Refused(usize),
-    /// A whole frame of so many bytes, and what it wants, if anything.
+    /// A whole frame that ends after this many held bytes, and what it wants, if anything.
     Whole(Option<Want<W, E>>, usize),
 }
 
@@ -24,13 +24,13 @@ pub enum Front<W, E> {
 pub enum Ended<E> {
     /// The input ended, and all of it was answered.
     AtEnd,
-    /// A frame was answered that ends the session so.
+    /// A frame that ends the session in this way was answered.
     By(E),
     /// A read failed.
     ReadFault,
     /// A write failed.
     WriteFault,
-    /// As many bytes were read as end a session.
+    /// The session's limit of bytes was read.
     InputLimit,
     /// Memory ran out.
     NoMemory,

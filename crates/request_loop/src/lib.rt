@@ -1,5 +1,5 @@
-//! One loop that reads requests from a wire, hands them to whatever answers, and writes the replies, whatever the
-//! frames of the bytes are.
+//! One loop that reads requests from a wire, has an answerer answer them, and writes the replies, whatever the frames
+//! of the bytes are.
 #![tactic(auto)]
 
 mod answering;

@@ -1,4 +1,4 @@
-//! The bytes that were read and not used up yet.
+//! A buffer of the bytes that were read and not used up yet.
 ghost use Rattle.std.specs.Prelude.{◌≡◌, ◌≤◌, ◌<◌, ◌+◌, [], length, drop, take, vec_len, IfOk, IfErr, OnOk, OnErr, IsErrOf};
 ghost use Rattle.lei_outside.specs.Faults.{FailsLast};
 ghost use Rattle.lei_outside.specs.Links.{told_by};
@@ -10,7 +10,7 @@ use lei_outside::{Failed, NoMemory};
 use std::alloc::Global;
 use std::marker::Model;
 
-/// How many bytes are read at a time.
+/// The most bytes that one read returns.
 pub const BLOCK: usize = 65_536;
 
 /// Why nothing was read.
@@ -22,7 +22,7 @@ pub enum ReadFault {
     NoMemory,
 }
 
-/// Bytes that were read and not used up yet. Contracts see it as their list.
+/// Bytes that were read and not used up yet. Contracts see them as a list.
 #[derive(Drop)]
 pub struct ReadBuffer {
     buffer: Vec<u8>,
@@ -41,7 +41,7 @@ impl Model for ReadBuffer {
 }
 
 impl ReadBuffer {
-    /// An empty read buffer, without memory yet.
+    /// An empty read buffer that hasn't allocated memory yet.
     pub fn new(alloc: Global) -> Self
         ensures { result ≡ [] }
     {
@@ -52,14 +52,14 @@ impl ReadBuffer {
         }
     }
 
-    /// The bytes.
+    /// The bytes that aren't used up.
     pub fn bytes(&self) -> &[u8]
         ensures { result.now ≡ self.now }
     {
         &self.buffer[self.start..self.end]
     }
 
-    /// Drops this many bytes from the front. The others stay where they are.
+    /// Drops this many bytes from the front. The others aren't moved.
     pub fn use_up(&mut self, count: usize)
         requires { count ≤ length self.old }
         ensures { self.new ≡ drop count self.old }
@@ -67,7 +67,8 @@ impl ReadBuffer {
         self.start += count;
     }
 
-    /// Reads once, at most a block and at most this many bytes, and says how many came. It is none only at the end.
+    /// Reads once, at most a block and at most `most` bytes, and returns how many came. The number is 0 only at the
+    /// end.
     pub fn read_from<L: Wire>(&mut self, link: &mut L, most: usize) -> Result<usize, ReadFault>
         requires { 0 < most }
         ensures ok { IfOk result (λ count. Fills (L.left link.old) (L.left link.new) self.old
@@ -95,7 +96,7 @@ impl ReadBuffer {
         }
     }
 
-    // Moves the bytes to the front.
+    // Moves the bytes to the front of the buffer.
     fn settle(&mut self)
         ensures { self.new ≡ self.old }
     {
@@ -107,7 +108,7 @@ impl ReadBuffer {
     }
 }
 
-// Makes room for a block after the first bytes of a buffer.
+// Makes room for a block after the first `held` bytes of a buffer.
 fn make_room(buffer: &mut Vec<u8>, held: usize) -> Result<(), NoMemory>
     requires { held ≤ vec_len buffer.old }
     ensures room { OnOk result (held + 65536 ≤ vec_len buffer.new) }
@@ -120,7 +121,7 @@ fn make_room(buffer: &mut Vec<u8>, held: usize) -> Result<(), NoMemory>
     Ok(())
 }
 
-// Reads once, at most a block and at most this many bytes, after the first bytes of a buffer.
+// Reads once, at most a block and at most `most` bytes, to the place after the first `held` bytes of a buffer.
 fn read_after<L: Wire>(
     link: &mut L,
     buffer: &mut Vec<u8>,

@@ -1,4 +1,4 @@
-//! The loop.
+//! The loop that serves a session.
 ghost use Rattle.std.specs.Prelude.{◌≡◌, ◌<◌, ℕ, List, [], Some};
 ghost use Rattle.lei_outside.specs.Count.{Rose};
 ghost use Rattle.lei_outside.specs.Faults.{FailsLast};
@@ -16,17 +16,17 @@ use crate::wire::Wire;
 use lei_outside::Clock;
 use std::alloc::Global;
 
-/// What the input of a session is taken with.
+/// How the input of a session is taken: its memory and its limit.
 #[derive(Clone, Copy)]
 pub struct Intake {
-    /// Where the memory for it comes from.
+    /// Where the memory for the input comes from.
     pub alloc: Global,
     /// The number of bytes at which the session ends.
     pub most: usize,
 }
 
-/// Serves one session: reads frames from the wire, hands what each asks to the answerer, and writes the reply before
-/// the next is asked. Only the replies to frames that the framing refuses by itself are written together.
+/// Serves one session: reads frames from the wire, puts what each asks to the answerer, and writes the reply before the
+/// next is asked. Only the replies to frames that the framing itself refuses are written together.
 pub fn serve<R, A: Answers<R>, F: Framing<Asked = A::Asked, Reply = A::Reply>, L: Wire, C: Clock>(
     rt: &R,
     intake: Intake,
@@ -60,7 +60,7 @@ pub fn serve<R, A: Answers<R>, F: Framing<Asked = A::Asked, Reply = A::Reply>, L
     serve_on(rt, intake, who, framing, link, clock)
 }
 
-// The same, but for what comes of a wire that doesn't fail.
+// The same, without the clause about a wire that doesn't fail.
 fn serve_on<R, A: Answers<R>, F: Framing<Asked = A::Asked, Reply = A::Reply>, L: Wire, C: Clock>(
     rt: &R,
     intake: Intake,
@@ -120,7 +120,7 @@ fn serve_on<R, A: Answers<R>, F: Framing<Asked = A::Asked, Reply = A::Reply>, L:
     }
 }
 
-// How serving ends where nothing could be read.
+// How serving ends if nothing could be read.
 fn ended_unread<E>(fault: ReadFault) -> Ended<E>
     ensures { result ≡ ended_unread fault }
 {

@@ -1,4 +1,4 @@
-//! Where bytes come from and go to: a link, or a source and a sink.
+//! Wires, where bytes come from and go to: a link, or a source and a sink.
 ghost use Rattle.std.specs.Prelude.{◌≡◌, ℕ, ◌<◌, ◌≤◌, List, Option, length, OnOk, OnErr, IsErrOf};
 ghost use Rattle.lei_outside.specs.Told.{Reads, Writes};
 ghost use Rattle.lei_outside.specs.Count.{Rose};
@@ -8,13 +8,13 @@ ghost use Rattle.request_loop.specs.Wires.{IsSent};
 
 use lei_outside::{Failed, Link, Sink, SinkFault, Source};
 
-/// Both sides of a session: bytes are read from it and written to it. The two sides have counts of their own, and a
-/// call of one side leaves the other as it was.
+/// Both sides of a session: bytes are read from it and written to it. Each side has its own count of failures, and a
+/// call on one side leaves the other as it was.
 pub trait Wire {
-    /// The bytes that are left to be read, where the wire tells them.
+    /// The bytes that are left to be read, if the wire tells them.
     ghost left: { Self → Option (List ℕ) };
 
-    /// The bytes that were written, where the wire tells them.
+    /// The bytes that were written, if the wire tells them.
     ghost written: { Self → Option (List ℕ) };
 
     /// How many reads have failed.
@@ -23,11 +23,11 @@ pub trait Wire {
     /// How many writes have failed.
     ghost write_faults: { Self → ℕ };
 
-    /// Both are over the same devices, where these are lent to the wire.
+    /// Both states have the same devices, if devices are lent to the wire.
     ghost lends_same: { Self → Self → Type 0 };
 
-    /// Fills the front of the buffer with the next bytes, and says how many they are. It gives none only at the
-    /// end. A read that fails takes none.
+    /// Fills the front of the buffer with the next bytes, and returns their number, 0 only at the end. A read that
+    /// fails takes no bytes.
     fn read(&mut self, buffer: &mut [u8]) -> Result<usize, Failed>
         requires { 0 < length buffer.old }
         ensures bytes { Reads (left self.old) (left self.new) result buffer.new }
@@ -38,7 +38,7 @@ pub trait Wire {
         ensures write_count { write_faults self.new ≡ write_faults self.old }
         ensures wire { lends_same self.old self.new };
 
-    /// Takes a front of the piece, and says how many bytes it is. A write that fails takes none.
+    /// Writes a prefix of the piece, and returns its length in bytes. A write that fails writes nothing.
     fn write(&mut self, piece: &[u8]) -> Result<usize, SinkFault>
         requires { 0 < length piece.now }
         ensures bytes { Writes (written self.old) (written self.new) result piece.now }
@@ -80,7 +80,7 @@ impl<L: Link> Wire for L {
     ghost lends_same_join = { λ _ _ _ _ _. tt };
 }
 
-/// A wire that reads from a source and writes to a sink, both of them lent.
+/// A wire that reads from a source and writes to a sink, both of which are lent to it.
 #[derive(Drop)]
 pub struct Duplex<'a, S, W> {
     pub input: &'a mut S,
@@ -114,7 +114,8 @@ impl<'a, S: Source, W: Sink> Wire for Duplex<'a, S, W> {
     ghost lends_same_join = { Prim.search rules };
 }
 
-/// Writes the whole piece, by as many writes as the wire needs for it. After an `Err` some front of it was written.
+/// Writes the whole piece, with as many writes as the wire needs. After an `Err`, only a proper prefix of it was
+/// written.
 pub fn send_piece<L: Wire>(link: &mut L, piece: &[u8]) -> Result<(), SinkFault>
     ensures sent { IsSent (L.written link.old) (L.written link.new) piece.now result }
     ensures kept { ¬ (IsErrOf result SinkFault.Failed) → L.write_faults link.new ≡ L.write_faults link.old }

@@ -1,4 +1,4 @@
--- The texts of a JSON value that is read of UTF-8 are UTF-8.
+-- The texts of a JSON value that is read from UTF-8 are UTF-8.
 use Rattle.std.proofs.Common.{◌≡◌, ℕ, zero, suc, ◌+◌, ◌*◌, ◌<◌, ◌&&◌, ◌||◌, ◌==◌, nat_lt, List, [], ◌∷◌, ◌++◌, length, drop, get_or, Bool, true, false, cond, Option, Some, None, option_map, option_and_then, refl, sym, ap, subst, ◌∙◌, arith, append-nil, append_assoc, length-append}
 use Rattle.std.proofs.Math.Seq.{get_or-append_seam}
 use Rattle.std.specs.Char.{IsScalar, digit_value, encode_utf8, is_digit}
@@ -41,14 +41,14 @@ abbrev mutual
   MembersAreTexts values.no_members = Unit {0}
   MembersAreTexts (values.member k d ms) = AreTexts d × MembersAreTexts ms
 
--- what is found is so
+-- what is found, if anything, has the property
 abbrev pub If : {A : Type 0} → (A → Type 0) → Option A → Type 0
 If P None = Unit {0}
 If P (Some a) = P a
 
 -- ---- where a text may be cut
 
--- before and behind a byte that is ASCII
+-- before and after an ASCII byte
 cut : (front rest : List ℕ) (x : ℕ) → x < 128 → IsUtf8 (front ++ x ∷ rest) → IsUtf8 front × IsUtf8 rest
 cut front rest x low is =
     let bs = front ++ x ∷ rest in
@@ -74,7 +74,7 @@ one x low = subst IsUtf8 (encode_ascii x low) (IsUtf8-encode x (ascii-scalar x l
 
 -- ---- what a string holds
 
--- what is found stands behind a text
+-- what is found, if anything, is UTF-8 when it follows `front`
 abbrev IsTextAfter : List ℕ → Option (List ℕ) → Type 0
 IsTextAfter front None = Unit {0}
 IsTextAfter front (Some s) = IsUtf8 (front ++ s)
@@ -120,7 +120,7 @@ says-plain x xs later escaped = λ front is. quoted front is (x == 34) refl
         subst IsUtf8 (sym (append-nil front)) (cut front xs x (omega (arith, same)) is).0
     quoted front is false test = backslash front is (x == 92) refl
 
--- the byte of an escape, and what it stands for
+-- the byte of an escape is ASCII if it stands for itself
 own-ascii : (x : ℕ) (a b d : Bool) → (x == 34) ≡ a → (x == 92) ≡ b → (x == 47) ≡ d → ((a || b) || d) ≡ true → x < 128
 own-ascii x true b d is_a is_b is_d any = let same = eqb-true x 34 is_a in omega (arith, same)
 own-ascii x false true d is_a is_b is_d any = let same = eqb-true x 92 is_b in omega (arith, same)
@@ -201,7 +201,7 @@ unit-is a b c d u is = by (is_digit a 16) refl (is_digit b 16) refl (is_digit c 
     by true p false q t r v s found = cc
     by false p t q v r w s found = cc
 
--- a code unit that is no surrogate is a character
+-- a code unit that isn't a surrogate is a character
 unit-scalar : (u : ℕ) → u < 65536 → is_high_surrogate u ≡ false → is_low_surrogate u ≡ false → IsScalar u
 unit-scalar u few high low = grind (arith, nat_tests)
 
@@ -295,7 +295,7 @@ IsLexed (lexer.token t) = IsText t
 IsLexed lexer.comma = Unit {0}
 IsLexed lexer.colon = Unit {0}
 
--- behind each quote stands a text
+-- a text follows each quote
 abbrev HasTexts : List ℕ → Type 0
 HasTexts xs = (front rest : List ℕ) → xs ≡ front ++ 34 ∷ rest → IsUtf8 rest
 
@@ -428,7 +428,7 @@ abbrev mutual
   AreMembers json.no_members = Unit {0}
   AreMembers (json.member k j ms) = IsJson j × AreMembers ms
 
--- what was read is so, and what is left are texts
+-- what was read has the property, and the tokens that are left have UTF-8 texts
 abbrev Gives : {A : Type 0} → (A → Type 0) → Option (A × List Token) → Type 0
 Gives P None = Unit {0}
 Gives P (Some p) = P p.0 × AreTokens p.1
@@ -468,7 +468,7 @@ items-read parse (suc n) reads = λ ts are. by ts are (items-read parse n reads)
     by ts are more (Some rest) is = (tt, ended ts are rest is)
     by ts are more None is = item-read (items parse n) (parse ts) more (reads ts are)
 
--- a key with what is left
+-- a key was read, and the tokens that are left have UTF-8 texts
 IsKeyRead : Option (Option (List ℕ) × List Token) → Type 0
 IsKeyRead None = Unit {0}
 IsKeyRead (Some p) = AreTokens p.1
@@ -582,7 +582,7 @@ last-data : (j : json.Json) (ts : List Token) → IsJson j → If AreTexts (opti
 last-data j [] is = json-data j is
 last-data j (t ∷ ts) is = tt
 
--- each text of the value that is read
+-- each text of the value that is read is UTF-8
 pub read-texts : (text : List ℕ) (found : Data) → IsUtf8 text → read text ≡ Some found → AreTexts found
 read-texts text found is reads =
     subst (If AreTexts) reads (by (value max_depth (tokens text)) (value-read max_depth (tokens text) (punctuated lexer.fresh (lex lexer.between text) (lexed lexer.between text quotes))))

@@ -1,4 +1,4 @@
--- Loops that turn a list into another, item by item: what was found so far, and what the rest gives.
+-- Loops that turn one list into another, item by item: what was found so far, and what the rest gives.
 use Rattle.std.proofs.Common.{◌≡◌, ℕ, List, [], ◌∷◌, ◌++◌, map, Option, Some, None, option_map, option_and_then, unwrap_or, Ok, String, Global, Less, Bool, ◌&&◌, refl, sym, subst, ap, ◌∙◌, rules, append_assoc}
 use Rattle.std.proofs.lemmas.List.{map-append}
 use Rattle.std.proofs.lemmas.Grind.{common_steps}
@@ -17,11 +17,11 @@ use Rattle.lei_records.specs.declared.item.RawItem.{RawItem}
 use Rattle.lei_records.specs.Names.{AreRising, names}
 use Rattle.upload_format.specs.Bodies.{behind, fields_of, found, item_of, list_of, member_names}
 
--- what was found, and then what the rest gives
+-- what was found, followed by what the rest gives
 abbrev pub with_front : {X : Type 0} → List X → Option (List X) → Option (List X)
 with_front front rest = behind (Some front) rest
 
--- one more of the front is the first of the rest
+-- the last item of the front may be the first of the rest instead
 pub with_front-push : {X : Type 0} (front : List X) (x : X) (rest : Option (List X)) → with_front (front ++ x ∷ []) rest ≡ with_front front (option_map (λ xs. x ∷ xs) rest)
 with_front-push front x None = refl
 with_front-push front x (Some rest) = ap Some (append_assoc front (x ∷ []) rest)
@@ -38,7 +38,7 @@ pub fields_step : (front : List (List ℕ × List ℕ)) (name : String Global) (
     → with_front (front ++ (string_bytes name, text) ∷ []) (fields_of (members_view rest)) ≡ with_front front (fields_of (members_view ((name, value) ∷ rest)))
 fields_step front name value text rest is = with_front-push front (string_bytes name, text) (fields_of (members_view rest)) ∙ ap (with_front front) (sym (rw (some_found (as_str (view value)) text is) refl))
 
--- ---- the names of an object's pairs rise, since its keys do
+-- ---- the names of an object's pairs rise, because its keys do
 
 below : (e : String Global) (es : List (String Global)) → AllByRecursion (λ k. string_cmp e k ≡ Less) es → AllByRecursion (λ k. slice_cmp nat_cmp (string_bytes e) k ≡ Less) (map string_bytes es)
 below e [] h = tt
@@ -59,18 +59,18 @@ unfolding IsStrictlySortedBy
 sorted_front [] ys all = tt
 sorted_front (x ∷ xs) ys all = (below_front x xs ys all.0, sorted_front xs ys all.1)
 
--- the names of the pairs so far, and those that are left
+-- the names of the pairs so far, followed by those that are left
 abbrev pub names_with : List (List ℕ × List ℕ) → List (String Global × Value) → List (List ℕ)
 names_with front rest = names front ++ map string_bytes (keys_of rest)
 
--- the next name is one of the front's
+-- the next name becomes one of the front's
 pub names_step : (front : List (List ℕ × List ℕ)) (name : String Global) (value : Value) (text : List ℕ) (rest : List (String Global × Value))
     → names_with (front ++ (string_bytes name, text) ∷ []) rest ≡ names_with front ((name, value) ∷ rest)
 names_step front name value text rest =
     ap (λ ns. ns ++ map string_bytes (keys_of rest)) (map-append (λ field. field.0) front ((string_bytes name, text) ∷ []))
     ∙ append_assoc (names front) (string_bytes name ∷ []) (map string_bytes (keys_of rest))
 
--- so the pairs with the next one rise, where the keys do
+-- so the pairs with the next one rise, if the keys do
 pub rising_step : (es : List (String Global × Value)) (front : List (List ℕ × List ℕ)) (name : String Global) (value : Value) (text : List ℕ) (rest : List (String Global × Value))
     → IsStrictlySortedBy string_cmp (keys_of es) → names_with front ((name, value) ∷ rest) ≡ map string_bytes (keys_of es)
     → AreRising (front ++ (string_bytes name, text) ∷ [])
@@ -92,7 +92,7 @@ list_step kind front value item rest is =
 
 -- ---- the three lists
 
--- where the first is read, what comes behind it comes behind its items
+-- if the first list was read, what follows it follows its items
 pub found_behind : (first : Option (List RawItem)) (items : List RawItem) (list : Option (List RawItem)) → found first ≡ Ok items
     → found (behind (Some items) list) ≡ found (behind first list)
 found_behind first items list is = ap (λ o. found (behind o list)) (sym (some_found first items is))

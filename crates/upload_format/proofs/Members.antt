@@ -1,4 +1,4 @@
--- A member that leaves an object leaves the others with their values.
+-- Removing a member from an object keeps the values of the others.
 use Rattle.std.proofs.Common.{◌≡◌, ℕ, List, [], ◌∷◌, Bool, true, false, cond, Some, String, Global, bytes_eq, string_bytes, nat_cmp, true≢false, refl, sym, ap, ◌∙◌}
 use Rattle.std.specs.BTreeMap.{is_at}
 use Rattle.std.specs.Cmp.Lexicographic.{slice_cmp}
@@ -14,7 +14,7 @@ use Rattle.serde_json.specs.declared.value.Value.{Value}
 abbrev Entry : Type 0
 Entry = String Global × Value
 
--- the test of the member's name
+-- the test for the member's name
 abbrev named : List ℕ → String Global → Bool
 named name = is_at (λ k. slice_cmp nat_cmp name (string_bytes k))
 

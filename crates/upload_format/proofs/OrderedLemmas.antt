@@ -31,7 +31,7 @@ use Rattle.upload_format.proofs.Loops.{with_front, with_front-end, with_front-pu
 
 -- ---- fields
 
--- The name of a field that stands behind others.
+-- A name that is less than all names of these fields is less than the last one.
 last_name : (own : List ℕ) (fields : List (List ℕ × List ℕ)) (name text : List ℕ)
     → AllByRecursion (λ k. slice_cmp nat_cmp own k ≡ Less) (names (fields ++ (name, text) ∷ [])) → slice_cmp nat_cmp own name ≡ Less
 last_name own [] name text all = all.0
@@ -47,7 +47,7 @@ put_behind (field ∷ fields) name text rising =
     let before : slice_cmp nat_cmp name field.0 ≡ Greater = nat_list_cmp_total.antisymm name field.0 ∙ ap ordering_reverse behind in
     rw before (ap (member field.0 (string field.1)) (put_behind fields name text rising.1))
 
--- What was read of an item, and what its other members give.
+-- What was read of an item so far, and what its other members give.
 pub record FieldsSoFar (ms : json.Members) (left : List Token) (fields : List (List ℕ × List ℕ)) : Type 0 where
   pub rest : json.Members
   pub at : InMembers left rest
@@ -187,7 +187,7 @@ is_known Kind.Exception = refl
 apart : (x y : List ℕ) → bytes_eq x y ≡ false → x ≡ y → ⊥
 apart x y differ is = true≢false (sym ((bytes_eq-Decides x y).1 is) ∙ differ)
 
--- the list of one kind behind one more list of a kind
+-- the list of kind `own` after one more list was read
 list_more : (own kind : Kind) (name : List ℕ) (values : Members) (ds : Items) (raws old : List RawItem) → name ≡ list_name kind
     → list_of kind ds ≡ Some raws → listed own (get_member (list_name own) values) ≡ Some old
     → listed own (get_member (list_name own) (put name (array ds) values)) ≡ Some (list_with own kind raws old)
@@ -258,7 +258,7 @@ items-of_lists text ms front middle end utf8 is are =
     let shallow : depth (json.object ms) ≤ 127 = omega (arith, are.flat) in
     rw (is_utf8-from_IsUtf8 text utf8, read-document text (json.object ms) is shallow, are.value, are.known, are.records, are.relations, are.exceptions) refl
 
--- ---- what calls answer
+-- ---- what calls return
 
 pub list_with-of : {X Y : Type 0} (f : X → Y) (own kind : Kind) (read old : X) → f (list_with own kind read old) ≡ list_with own kind (f read) (f old)
 list_with-of f Kind.Record Kind.Record read old = refl
@@ -275,7 +275,7 @@ pub some_of : {X : Type 0} (o : Option X) → IsSome o → (x : X) × (o ≡ Som
 some_of None is = cc
 some_of (Some x) is = (x, refl)
 
--- ---- a name behind those of the fields
+-- ---- a name after those of the fields
 
 pub rising_one : (fields : List (List ℕ × List ℕ)) (name text : List ℕ) → length fields ≡ 0 → AreRising (fields ++ (name, text) ∷ [])
 unfolding IsStrictlySortedBy

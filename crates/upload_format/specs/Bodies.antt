@@ -1,4 +1,4 @@
--- What an upload's body says: a definition over the value that the JSON of its bytes has (RFC 8259).
+-- What an upload's body says, defined over the JSON value of its bytes (RFC 8259).
 use Rattle.std.specs.Prelude.{◌≡◌, ℕ, List, [], ◌∷◌, ◌++◌, length, codes, Bool, ◌||◌, ◌==◌, nat_lt, if◌then◌else◌, Option, Some, None, option_map, option_and_then, Result, Ok, Err}
 use Rattle.std.specs.List.{list_all}
 use Rattle.std.specs.Str.{is_utf8, bytes_eq}
@@ -13,11 +13,11 @@ use Rattle.upload_format.specs.declared.fault.UploadFault.TheVariants as faults
 use Rattle.lei_records.specs.declared.fields.Kind.{Kind}
 use Rattle.lei_records.specs.declared.item.RawItem.{RawItem}
 
--- The value of the bytes: they are UTF-8, and JSON. A name that an object repeats has its last value.
+-- The value of the bytes, if they are UTF-8 and JSON. If an object repeats a name, the last value counts.
 unfoldable pub value_of : Body → Option Data
 value_of body = if is_utf8 body then read body else None
 
--- The members of an object as pairs of a name and a text. It has no reading where a value isn't a text.
+-- The members of an object as pairs of a name and a text. There is no reading if a value isn't a text.
 abbrev pub fields_of : Members → Option (List (Text × Text))
 fields_of no_members = Some []
 fields_of (member name value others) =
@@ -33,13 +33,13 @@ sent Kind.Exception fields = RawItem.Exception fields
 abbrev pub item_of : Kind → Data → Option RawItem
 item_of kind value = option_map (sent kind) (option_and_then fields_of (as_object value))
 
--- the items of a kind that an array lists. It has no reading where one of its values is no item
+-- the items of a kind that an array lists. There is no reading if one of its values isn't an item
 abbrev pub list_of : Kind → Items → Option (List RawItem)
 list_of kind no_items = Some []
 list_of kind (item value others) =
     option_and_then (λ first. option_map (λ more. first ∷ more) (list_of kind others)) (item_of kind value)
 
--- the value of a member, a list of items of a kind. An absent one has no item.
+-- the items of a kind that the value of a member lists. An absent member has no items.
 abbrev pub listed : Kind → Option Data → Option (List RawItem)
 listed kind None = Some []
 listed kind (Some value) = option_and_then (list_of kind) (as_array value)
@@ -61,25 +61,26 @@ is_list_name name =
     bytes_eq name (list_name Kind.Record) || bytes_eq name (list_name Kind.Relation)
     || bytes_eq name (list_name Kind.Exception)
 
--- one list, and another behind it. There is none where either has no reading.
+-- one list followed by another. There is none if either has no reading.
 abbrev pub behind : {X : Type 0} → Option (List X) → Option (List X) → Option (List X)
 behind None list = None
 behind (Some front) None = None
 behind (Some front) (Some list) = Some (front ++ list)
 
--- the items of members: records, then relationships, then exceptions
+-- the items of three members: records, then relationships, then exceptions
 abbrev pub in_order : Option Data → Option Data → Option Data → Option (List RawItem)
 in_order records relationships exceptions =
     behind (behind (behind (Some []) (listed Kind.Record records)) (listed Kind.Relation relationships))
     (listed Kind.Exception exceptions)
 
--- the items of an object's members, by their lists
+-- the items in the lists of an object's members
 abbrev pub items_in : Members → Option (List RawItem)
 items_in members =
     in_order (get_member (list_name Kind.Record) members) (get_member (list_name Kind.Relation) members)
     (get_member (list_name Kind.Exception) members)
 
--- The items that a value lists: it is an object that has no other member. It has no reading where it is no upload.
+-- The items that a value lists. The value is an object that has only these members. There is no reading if it isn't an
+-- upload.
 abbrev pub items_of : Data → Option (List RawItem)
 items_of value =
     option_and_then (λ members. if list_all is_list_name (member_names members) then items_in
@@ -90,18 +91,18 @@ items_of value =
 abbrev pub item_limit : ℕ
 item_limit = 5_000
 
--- from 1 item to as many as an upload may have
+-- the items, if there is at least 1 and at most as many as an upload may have, or else the fault
 abbrev pub counted : List RawItem → Result (List RawItem) Malformed
 counted items =
     if length items == 0 then Err NoItems else
     (if nat_lt item_limit (length items) then Err TooManyItems else Ok items)
 
--- the items if they are an upload's, and else the fault
+-- the items if they are an upload's, or else the fault
 abbrev pub of_items : Option (List RawItem) → Result (List RawItem) Malformed
 of_items None = Err NotAnUpload
 of_items (Some items) = counted items
 
--- the items that a value lists, or the fault; where there is no value, the body is no JSON
+-- the items that a value lists, or the fault; if there is no value, the body isn't JSON
 abbrev pub of_value : Option Data → Result (List RawItem) Malformed
 of_value None = Err NotJson
 of_value (Some value) = of_items (items_of value)
@@ -110,29 +111,29 @@ of_value (Some value) = of_items (items_of value)
 unfoldable pub upload : Body → Result (List RawItem) Malformed
 upload body = of_value (value_of body)
 
--- ---- what a reader answers: exactly the items or the fault, unless memory ran out
+-- ---- what a reader returns: exactly the items or the fault, unless memory ran out
 
--- a reader's fault is the one that is to be found; want of memory may come in its place, and in that of items
+-- a reader's fault is the one in `read`; `NoMemory` may be returned in its place, and in place of items
 abbrev pub Fails : {Y : Type 0} → UploadFault → Result Y Malformed → Type 0
 Fails faults.NoMemory read = Unit {0}
 Fails (faults.Malformed fault) read = read ≡ Err fault
 
--- what a reader gives is what is to be read, as contracts see it, or its fault
+-- a reader returns the value in `read`, as contracts see it, or its fault
 abbrev pub Gives : {X Y : Type 0} → (X → Y) → Result X UploadFault → Result Y Malformed → Type 0
 Gives view (Ok x) read = read ≡ Ok (view x)
 Gives view (Err fault) read = Fails fault read
 
--- the value of JSON, and else that it is none
+-- the JSON value, or else the fault that the body isn't JSON
 abbrev pub parsed : {Y : Type 0} → Option Y → Result Y Malformed
 parsed None = Err NotJson
 parsed (Some y) = Ok y
 
--- what an upload has there, and else that it is no upload
+-- a part of an upload, or else the fault that the body isn't an upload
 abbrev pub found : {Y : Type 0} → Option Y → Result Y Malformed
 found None = Err NotAnUpload
 found (Some y) = Ok y
 
--- the items of a value before they are counted; where there is no value, the body is no JSON
+-- the items of a value before they are counted; if there is no value, the body isn't JSON
 abbrev pub uncounted : Option Data → Result (List RawItem) Malformed
 uncounted None = Err NotJson
 uncounted (Some value) = found (items_of value)

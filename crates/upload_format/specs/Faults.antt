@@ -1,4 +1,4 @@
--- How it is reported to a person that a body wasn't read.
+-- The words that report to a person why a body wasn't read.
 use Rattle.std.specs.Prelude.{codes}
 use Rattle.lei_code.specs.Texts.{Text}
 use Rattle.register_words.specs.Faults.{malformed_words}

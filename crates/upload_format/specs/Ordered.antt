@@ -1,4 +1,4 @@
--- Bodies whose objects have their names in byte order, as they are read from the tokens of their text (RFC 8259).
+-- Bodies whose items have their names in byte order, as they are read from the tokens of their text (RFC 8259).
 use Rattle.std.specs.Prelude.{◌≡◌, ◌≤◌, ℕ, List, [], ◌∷◌, true, Option, Some, None}
 use Rattle.std.specs.List.{list_all}
 use Rattle.json.specs.Json as json
@@ -11,24 +11,24 @@ use Rattle.lei_records.specs.declared.fields.Kind.{Kind}
 use Rattle.lei_records.specs.declared.item.RawItem.{RawItem}
 use Rattle.upload_format.specs.Bodies.{is_list_name, list_name, list_of, listed, member_names}
 
--- The members of an object that has these names with these texts.
+-- The members of an object that has these names, each with its text.
 abbrev pub texts_of : List (Text × Text) → Members
 texts_of [] = no_members
 texts_of (field ∷ fields) = member field.0 (string field.1) (texts_of fields)
 
--- The members have the value of these fields. No value nests in another.
+-- The value of the members is these fields. No value is nested in another.
 pub record AreFields (members : json.Members) (fields : List (Text × Text)) : Type 0 where
   pub value : of_members members no_members ≡ Some (texts_of fields)
   pub flat : members_depth members ≤ 0
 
--- The items have values that are these items of a kind, each of which is an object of texts.
+-- The values of the array are these items of a kind. Each of them is an object of texts.
 pub record AreItems (kind : Kind) (js : json.Items) (raws : List RawItem) : Type 0 where
   pub values : Items
   pub value : of_items js ≡ Some values
   pub listed : list_of kind values ≡ Some raws
   pub flat : items_depth js ≤ 1
 
--- The members have values that are the three lists of an upload: of records, of relationships, and of exceptions.
+-- The values of the members are the three lists of an upload: of records, of relationships and of exceptions.
 pub record AreLists (members : json.Members) (front middle end : List RawItem) : Type 0 where
   pub values : Members
   pub value : of_members members no_members ≡ Some values
@@ -38,7 +38,8 @@ pub record AreLists (members : json.Members) (front middle end : List RawItem) :
   pub exceptions : listed Kind.Exception (get_member (list_name Kind.Exception) values) ≡ Some end
   pub flat : members_depth members ≤ 2
 
--- A list of the own kind, where one of another kind was read.
+-- The list of kind `own` after a list of kind `kind` was read: the new one if the kinds are the same, or else the old
+-- one.
 abbrev pub list_with : {X : Type 0} → Kind → Kind → X → X → X
 list_with Kind.Record Kind.Record read old = read
 list_with Kind.Relation Kind.Relation read old = read

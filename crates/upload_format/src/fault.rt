@@ -1,4 +1,4 @@
-//! Why a body isn't read.
+//! The faults for which a body isn't read.
 ghost use Rattle.std.specs.Prelude.{◌≡◌, Some};
 ghost use Rattle.upload_format.specs.declared.fault.UploadFault.TheVariants as faults;
 
@@ -11,9 +11,9 @@ use std::fmt;
 /// Why a body wasn't read.
 #[derive(Clone, Copy, Debug, PartialEq, Eq)]
 pub enum UploadFault {
-    /// The body is no upload. The same bytes have the same fault each time.
+    /// The body isn't an upload. The same bytes always have the same fault.
     Malformed(Malformed),
-    /// Memory ran out, which says nothing of the body.
+    /// Memory ran out. This says nothing about the body.
     NoMemory,
 }
 

@@ -1,4 +1,4 @@
-// Raw items of each kind.
+//! Raw items of each kind.
 ghost use Rattle.std.specs.Prelude.{◌≡◌};
 ghost use Rattle.upload_format.specs.Bodies;
 

@@ -1,5 +1,5 @@
-//! The body of an upload: a JSON object with lists of records, relationships and exceptions, each an object whose
-//! values are texts.
+//! Reads the body of an upload: a JSON object with lists of records, relationships and exceptions. Each of these is an
+//! object whose values are texts.
 #![tactic(auto)]
 
 mod fault;

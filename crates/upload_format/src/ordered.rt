@@ -1,5 +1,5 @@
-// The items of a body, read from its tokens: no value of it becomes a tree. What is read so is an upload whose items
-// have their names in byte order.
+//! Reads the items of a body from its tokens, without a tree of its values. It reads uploads whose items have their
+//! names in byte order.
 ghost use Rattle.std.specs.Prelude.{◌≡◌, ◌++◌, ◌∷◌, [], ℕ, List as Listed, IfOk, IfSome, IsTrue, Some, option_and_then};
 ghost use Rattle.json.specs.Find.{InItems, InMembers};
 ghost use Rattle.json.specs.Json as spec;
@@ -15,7 +15,8 @@ use lei_outside::NoMemory;
 use lei_records::{Fields, Kind, RawItem};
 use std::alloc::Global;
 
-// The items of a body that is an upload whose items have their names in byte order. Of another body nothing is said.
+// The items of a body, if it is an upload whose items have their names in byte order. `None` says nothing about the
+// body.
 #[tactic(auto, unfolding(crate::specs::Bodies::value_of))]
 pub fn read_ordered(
     alloc: Global,
@@ -53,7 +54,7 @@ fn read_text(
     }
 }
 
-// The items of an upload's three lists. An absent one has none.
+// The items of an upload's three lists. An absent list has no items.
 #[derive(Drop)]
 struct Lists {
     records: Vec<RawItem>,
@@ -61,7 +62,7 @@ struct Lists {
     exceptions: Vec<RawItem>,
 }
 
-// The items of the lists, one behind the other.
+// The items of the lists, one list after another.
 fn joined(lists: Lists) -> Result<Vec<RawItem>, NoMemory>
     ensures { IfOk result (λ items. items.items
         ≡ lists.records.items ++ lists.relations.items ++ lists.exceptions.items) }
@@ -76,7 +77,7 @@ fn joined(lists: Lists) -> Result<Vec<RawItem>, NoMemory>
     Ok(items)
 }
 
-// The lists of an upload's members.
+// The lists of an upload's members. If a list is repeated, the last one counts. If a list is repeated, the last one counts.
 fn read_lists(alloc: Global, members: Members<'_, '_>) -> Result<Option<Lists>, NoMemory>
     ensures { IfOk result (λ read. IfSome read (λ lists. (ms : spec.Members) → InMembers members.entry ms
         → AreLists ms lists.records.items lists.relations.items lists.exceptions.items)) }
@@ -102,7 +103,7 @@ fn read_lists(alloc: Global, members: Members<'_, '_>) -> Result<Option<Lists>, 
     Ok(Some(lists))
 }
 
-// The kind of the items that the member of this name lists.
+// The kind of the items in the list with this name.
 fn kind_of(name: &str) -> Option<Kind>
     ensures { IfSome result (λ kind. name.now ≡ list_name kind) }
 {
@@ -114,7 +115,7 @@ fn kind_of(name: &str) -> Option<Kind>
     }
 }
 
-// The lists with this one in place of that of its kind.
+// The lists, with the one of this kind replaced.
 fn with_list(lists: Lists, kind: Kind, read: Vec<RawItem>) -> Lists
     ensures records { result.records ≡ list_with Kind.Record kind read lists.records }
     ensures relations { result.relations ≡ list_with Kind.Relation kind read lists.relations }
@@ -159,7 +160,7 @@ fn read_list(
     Ok(Some(items))
 }
 
-// The fields of an item, where their names rise and their values are texts.
+// The fields of an item, if their names rise in byte order and their values are texts.
 fn read_fields(alloc: Global, members: Members<'_, '_>) -> Result<Option<Fields>, NoMemory>
     ensures { IfOk result (λ read. IfSome read (λ fields. (ms : spec.Members) → InMembers members.entry ms
         → AreFields ms fields)) }
@@ -178,12 +179,12 @@ fn read_fields(alloc: Global, members: Members<'_, '_>) -> Result<Option<Fields>
     Ok(Some(fields))
 }
 
-// So many fields, of so many bytes together, an item mostly has at most.
+// Most items have at most this many fields, with at most this many bytes of names and texts together.
 const FIELDS: usize = 32;
 
 const BYTES: usize = 1_500;
 
-// Whether the name comes behind those of the fields.
+// Whether the name comes after those of the fields in byte order.
 fn is_next(fields: &Fields, name: &str) -> bool
     ensures { (text : Listed ℕ) → IsTrue result → AreRising (fields.now ++ (name.now, text) ∷ []) }
 {

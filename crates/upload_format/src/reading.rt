@@ -1,4 +1,4 @@
-//! The bodies of uploads, read as lists of items.
+//! Reads the bodies of uploads as lists of items.
 ghost use Rattle.std.specs.Prelude.{◌≡◌, ℕ, List, false, Some, option_map};
 ghost use Rattle.std.specs.Str.{bytes_eq};
 ghost use Rattle.std.specs.List.{list_all};
@@ -21,10 +21,11 @@ use std::alloc::Global;
 /// The greatest number of items in an upload. This project's profile.
 pub const MAX_ITEMS: usize = 5000;
 
-/// Reads the body of an upload, an RFC 8259 text of an object with the lists `records`, `relationships` and
-/// `exceptions`, or some of them. Each lists objects of texts. A repeated name in an object has its last value. There
-/// are from 1 to [`MAX_ITEMS`] items in all: first the records, then the relationships, then the exceptions, and each
-/// in the order in which they were sent. Names and texts move out of the JSON value and aren't copied.
+/// Reads the body of an upload: an RFC 8259 text of an object with the lists `records`, `relationships` and
+/// `exceptions`, or some of them. Each list has objects whose values are texts. If an object repeats a name, the last
+/// value counts. An upload has from 1 to [`MAX_ITEMS`] items in all. The records are returned first, then the
+/// relationships, then the exceptions, each in the order in which they were sent. Names and texts are copied into the
+/// items.
 pub fn read_upload(alloc: Global, body: &[u8]) -> Result<Upload, UploadFault>
     ensures { Gives (λ read. read.items) result (upload body.now) }
 {
@@ -32,8 +33,8 @@ pub fn read_upload(alloc: Global, body: &[u8]) -> Result<Upload, UploadFault>
     reader.read(alloc, body)
 }
 
-/// Reads bodies one after the other, in memory that it keeps: about five bytes for each byte of the longest one. So
-/// none of it is asked for and cleared anew for a body that is no longer than those before.
+/// Reads bodies one after another, in memory that it keeps: about five bytes for each byte of the longest one. It
+/// allocates and clears none of that memory again for a body that is at most as long as an earlier one.
 #[derive(Drop)]
 pub struct Reader {
     scratch: Scratch,
@@ -65,7 +66,7 @@ impl Reader {
     }
 }
 
-// The items of a body before they are counted. Where they have their names in byte order, no value becomes a tree.
+// The items of a body before they are counted. If they have their names in byte order, no tree of values is built.
 fn read_body(alloc: Global, scratch: &mut Scratch, body: &[u8]) -> Result<Vec<RawItem>, UploadFault>
     ensures { Gives (λ items. items.items) result (uncounted (value_of body.now)) }
 {
@@ -96,7 +97,7 @@ fn read_value(alloc: Global, body: &[u8]) -> Result<Value, UploadFault>
     }
 }
 
-// The items of an object whose members are all those of an upload.
+// The items of a value, if it is an object whose members all have the name of an upload's list.
 fn read_items(alloc: Global, value: Value) -> Result<Vec<RawItem>, UploadFault>
     ensures { Gives (λ items. items.items) result (found (items_of (view value))) }
 {
@@ -147,7 +148,7 @@ fn lists_of(mut members: Map<String, Value>) -> Lists
     }
 }
 
-// The member's value, which leaves the object.
+// The member's value, which is removed from the object.
 fn take_member(members: &mut Map<String, Value>, name: &str) -> Option<Value>
     ensures value { option_map view result ≡ get_member name.now (members_view members.old.entries) }
     ensures others { (other : List ℕ) → bytes_eq other name.now ≡ false
@@ -157,7 +158,7 @@ fn take_member(members: &mut Map<String, Value>, name: &str) -> Option<Value>
     members.remove(name)
 }
 
-// The items of the three lists, one behind the other.
+// The items of the three lists, one list after another.
 fn read_lists(alloc: Global, lists: Lists) -> Result<Vec<RawItem>, UploadFault>
     ensures { Gives (λ items. items.items) result
         (found (in_order (option_map view lists.records) (option_map view lists.relationships)
@@ -169,7 +170,7 @@ fn read_lists(alloc: Global, lists: Lists) -> Result<Vec<RawItem>, UploadFault>
     read_list(alloc, items, Kind::Exception, lists.exceptions)
 }
 
-// These items, and those of a list behind them.
+// These items, followed by those of a list.
 fn read_list(
     alloc: Global,
     items: Vec<RawItem>,

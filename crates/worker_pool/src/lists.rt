@@ -1,4 +1,4 @@
-//! Lists, member by member.
+//! Work on each member of a list, in several threads.
 ghost use Rattle.std.specs.Prelude.{◌≡◌, ◌+◌, Ok, Err, length, IfOk};
 ghost use Rattle.std.specs.Fn.{FnReturnsAt};
 ghost use Rattle.std.specs.List.{AllZip};
@@ -10,8 +10,8 @@ use std::alloc::Global;
 use std::sync::ledger::Ledger;
 use std::thread::Threads;
 
-/// What the work makes of each member of a list, in order: the answers that one thread would get one behind the other.
-/// Where memory is wanting for one, it is wanting for all. Each member is a step.
+/// What `work` returns for each member of a list, in order: the results that a single thread would get one after the
+/// other. If memory runs out for one member, the whole call fails. Each member counts as one step.
 pub fn map_list<
     T: Sync,
     U: Send + Drop,

@@ -1,10 +1,10 @@
-//! A counter that contracts alone see.
+//! A counter that only contracts see.
 ghost use Rattle.std.specs.Prelude.{◌≡◌, ◌+◌};
 
 use std::marker::Model;
 use std::sync::ledger::{Blank, Book, Ledger, Share};
 
-/// How many steps were taken. It takes no bytes at run time. Contracts see it as a number.
+/// The number of steps that were counted. It takes no memory at run time. Contracts see it as a number.
 #[derive(Drop)]
 pub struct Steps<L: Ledger> {
     book: Book<L>,
@@ -22,7 +22,7 @@ impl<L: Ledger> Model for Steps<L> {
 }
 
 impl<L: Ledger> Steps<L> {
-    /// No steps yet, counted in a new ledger of one part.
+    /// A count of no steps, in a new ledger of one part.
     pub fn new(blank: Blank) -> Self
         requires name { blank.name ≡ L.name }
         requires parts { blank.parts ≡ L.parts }
@@ -33,7 +33,7 @@ impl<L: Ledger> Steps<L> {
         Steps { book, share }
     }
 
-    /// Adds steps.
+    /// Counts this many further steps.
     pub fn add(&mut self, count: u64)
         ensures { self.new ≡ self.old + count }
     {

@@ -1,6 +1,6 @@
-//! The fields of an exception in order of place: the four of its row, and what is to be done with it. The names are
-//! those of the columns of a golden copy of reporting exceptions, but for the last one; shapes and needs are this
-//! project's profile.
+//! The fields of an exception in order of place: the four of its row, and the action. The names are those of the
+//! columns of a golden copy of reporting exceptions, except for the last one. Shapes and needs are this project's
+//! profile.
 use crate::fields::Content::{Action, Shaped};
 use crate::fields::{Field, Need};
 use crate::places::ACTION;
@@ -22,5 +22,6 @@ pub const FIELDS: [Field; ACTION] = [
     ("Action", Action, Need::Optional),
 ];
 
-/// For each index that of the field whose name comes before in byte order. That of the first is any.
+/// For each index, the index of the field whose name comes right before in byte order. The entry of the first name is
+/// arbitrary.
 pub const BEFORE: [u8; ACTION] = [3, 4, 1, 2, 0];

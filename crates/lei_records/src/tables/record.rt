@@ -1,6 +1,5 @@
-//! The fields of a record in order of place. The names are those of the columns of a golden copy of
-//! level 1 data, but for Register.TransferTo and those of an event; shapes and needs are this project's
-//! profile.
+//! The fields of a record in order of place. The names are those of the columns of a golden copy of level 1 data,
+//! except for Register.TransferTo and those of an event. Shapes and needs are this project's profile.
 use crate::fields::Content::Shaped;
 use crate::fields::{Content, Field, Need};
 use crate::places::RECORD_PLACES;
@@ -161,7 +160,8 @@ pub const FIELDS: [Field; RECORD_PLACES] = [
     ),
 ];
 
-/// For each index that of the field whose name comes before in byte order. That of the first is any.
+/// For each index, the index of the field whose name comes right before in byte order. The entry of the first name is
+/// arbitrary.
 pub const BEFORE: [u8; RECORD_PLACES] = [
     20, 15, 1, 6, 10, 7, 4, 3, 11, 28, 12, 9, 8, 14, 2, 17, 0, 5, 19, 16, 13, 27, 21, 24, 25, 22,
     23, 0, 31, 18, 29, 30,

@@ -1,5 +1,5 @@
-//! The fields of a relationship in order of place. The names are those of the columns of a golden copy of level 2
-//! data; shapes and needs are this project's profile.
+//! The fields of a relationship in order of place. The names are those of the columns of a golden copy of level 2 data.
+//! Shapes and needs are this project's profile.
 use crate::fields::Content::Shaped;
 use crate::fields::{Field, Need};
 use crate::places::RELATION_PLACES;
@@ -55,5 +55,6 @@ pub const FIELDS: [Field; RELATION_PLACES] = [
     ),
 ];
 
-/// For each index that of the field whose name comes before in byte order. That of the first is any.
+/// For each index, the index of the field whose name comes right before in byte order. The entry of the first name is
+/// arbitrary.
 pub const BEFORE: [u8; RELATION_PLACES] = [4, 3, 5, 2, 1, 10, 0, 6, 9, 7, 8];

@@ -6,7 +6,7 @@ use Rattle.copy_csv.specs.Csv.{change_line}
 use Rattle.copy_csv.specs.Rows.{AreRising, IsChangeIn, changed_key}
 use Rattle.copy_csv.proofs.csv_rows.read_changes.Given as goal
 
--- the changes are those of the lines before what is left
+-- the lines before what is left are those of the changes
 abbrev pub invariant-loop-reader : goal.invariant-loop-reader
 invariant-loop-reader l = record {
   printed : l.bytes ≡ flat_map (change_line l.wide) l.changes.items ++ l.reader;

@@ -7,7 +7,7 @@ use Rattle.copy_csv.specs.Rows.{AreRising, IsRowIn}
 use Rattle.copy_csv.specs.Sheets.{key}
 use Rattle.copy_csv.proofs.csv_rows.read_rows.Given as goal
 
--- the rows are those of the lines before what is left
+-- the lines before what is left are those of the rows
 abbrev pub invariant-loop-reader : goal.invariant-loop-reader
 invariant-loop-reader l = record {
   printed : l.bytes ≡ flat_map (row_line l.wide) l.rows.items ++ l.reader;

@@ -4,7 +4,7 @@ use Rattle.copy_forms.specs.Merging.{merged}
 use Rattle.copy_forms.proofs.Passing.{alone}
 use Rattle.delta_apply.proofs.json.merge.Given as goal
 
--- what was put, with what the rows and the changes that are left make, is what all make
+-- the output so far, followed by the merge of the rows and the changes that are left, is the merge of all
 abbrev pub invariant-loop-index : goal.invariant-loop-index
 invariant-loop-index l = record {
   walk : map (λ row. row.now) l.held.items ++ flat_map alone (merged (drop l.index l.rows) (drop l.next l.changes))

@@ -5,7 +5,7 @@ use Rattle.fetched_cells.specs.Nearest.{new_ones}
 use Rattle.fetched_cells.proofs.NearestLemmas.{with_unmet}
 use Rattle.fetched_cells.proofs.nearest.next_level.Given as goal
 
--- with what the LEIs from this one on name, the level has all of them
+-- after what the LEIs from this one on name is added, the level has all of them
 abbrev pub invariant-loop-lei : goal.invariant-loop-lei
 invariant-loop-lei g l =
     let nexts = known_nexts (g.B.Branches.answers l.branches) in

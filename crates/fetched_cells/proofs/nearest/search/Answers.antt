@@ -38,7 +38,7 @@ loop-preserved g c =
       few = omega arith;
     }
 
--- all levels were looked at
+-- all levels were searched
 pub returns : goal.returns
 returns g c =
     let nexts = known_nexts (g.B.Branches.answers c.args.branches.now) in

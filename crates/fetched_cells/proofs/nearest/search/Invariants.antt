@@ -3,7 +3,7 @@ use Rattle.successor_rules.specs.Levels.{known_nexts}
 use Rattle.fetched_cells.proofs.NearestLemmas.{Searched, sought}
 use Rattle.fetched_cells.proofs.nearest.search.Given as goal
 
--- as many levels as are left have the rest of what is looked for
+-- the levels that are left have the rest of the LEIs to find
 abbrev pub invariant-loop : goal.invariant-loop
 invariant-loop g l =
     let nexts = known_nexts (g.B.Branches.answers l.branches) in

@@ -3,7 +3,7 @@ use Rattle.copy_csv.specs.Sheets.{key_len, width}
 use Rattle.golden_shelf.specs.Keys.{key_texts}
 use Rattle.golden_shelf.proofs.deltas.dropped.Given as goal
 
--- behind the texts of the key stand empty ones
+-- the texts of the key are followed by empty ones
 abbrev pub invariant-loop-texts : goal.invariant-loop-texts
 invariant-loop-texts l = record {
   made : l.texts ≡ key_texts l.key ++ replicate (length l.texts - key_len l.sheet) (codes "");

@@ -4,7 +4,7 @@ use Rattle.register_words.specs.declared.sheets.Sheet.{Sheet}
 use Rattle.golden_shelf.specs.Keys.{is_of}
 use Rattle.golden_shelf.proofs.notes.parted.Given as goal
 
--- the notes of each sheet with those of the rest are those of all
+-- the notes of each sheet so far, and those that are left, are all of its notes
 abbrev pub invariant-loop-note : goal.invariant-loop-note
 invariant-loop-note l =
     (l.parts.lei.items ++ filter (λ note. is_of Sheet.Lei note.key) l.note-iterator.rest.items

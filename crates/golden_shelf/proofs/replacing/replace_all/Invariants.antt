@@ -5,7 +5,7 @@ use Rattle.golden_shelf.specs.Places.{is_there}
 use Rattle.golden_shelf.specs.Sides.{AreRisingChanges, notes_of}
 use Rattle.golden_shelf.proofs.replacing.replace_all.Given as goal
 
--- the notes that are left come to what all come to, and find what all found
+-- the notes that are left lead to the lines after all changes, and to what all notes replace
 abbrev pub invariant-loop-index : goal.invariant-loop-index
 invariant-loop-index l = record {
   walk : with_lines l.rows.lines (drop l.index (notes_of l.fn.notes)) ≡ with_lines l.fn.rows.lines (notes_of l.fn.notes);

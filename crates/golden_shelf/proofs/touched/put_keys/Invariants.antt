@@ -4,7 +4,7 @@ use Rattle.golden_shelf.specs.Deltas.{texts_in}
 use Rattle.golden_shelf.specs.Keys.{is_of, key_texts}
 use Rattle.golden_shelf.proofs.touched.put_keys.Given as goal
 
--- the keys so far with those of the rest are all
+-- the keys so far and those that are left are all keys
 abbrev pub invariant-loop-key : goal.invariant-loop-key
 invariant-loop-key l = record {
   keys : map texts_in l.out.items ++ map key_texts (filter (is_of l.sheet) (drop l.key-index l.keys))

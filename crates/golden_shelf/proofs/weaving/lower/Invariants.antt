@@ -1,7 +1,7 @@
 use Rattle.std.proofs.Common.{◌≡◌, ◌+◌, ◌≤◌, ◌++◌, length}
 use Rattle.golden_shelf.proofs.weaving.lower.Given as goal
 
--- the lines with those that wait behind them are as they were
+-- the lines, followed by those that wait, are the same as at first
 abbrev pub invariant-loop-key : goal.invariant-loop-key
 invariant-loop-key l =
     (l.rows.lines ++ l.rest.lines ≡ l.fn.rows.lines ++ l.fn.rest.lines)

@@ -1,7 +1,7 @@
 use Rattle.std.proofs.Common.{◌≡◌, ◌+◌, ◌≤◌, ◌++◌, length}
 use Rattle.golden_shelf.proofs.weaving.raise_all.Given as goal
 
--- the lines with those that wait behind them are as they were
+-- the lines, followed by those that wait, are the same as at first
 abbrev pub invariant-loop-first : goal.invariant-loop-first
 invariant-loop-first l =
     (l.rows.lines ++ l.rest.lines ≡ l.fn.rows.lines ++ l.fn.rest.lines)

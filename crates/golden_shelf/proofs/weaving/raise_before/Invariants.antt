@@ -3,7 +3,8 @@ use Rattle.golden_shelf.specs.Keys.{key_texts}
 use Rattle.golden_shelf.specs.Walks.{below, onward}
 use Rattle.golden_shelf.proofs.weaving.raise_before.Given as goal
 
--- the lines with those that wait before the key behind them come to what they came to, and so do those that wait from it on
+-- the lines, followed by those that wait before the key, are the same as at first, and so are those that wait from it
+-- on
 abbrev pub invariant-loop-first : goal.invariant-loop-first
 invariant-loop-first l =
     let k = key_texts l.fn.key in

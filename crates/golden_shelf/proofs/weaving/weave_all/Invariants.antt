@@ -3,7 +3,7 @@ use Rattle.golden_shelf.specs.Sides.{notes_of}
 use Rattle.golden_shelf.specs.Walks.{taken, woven}
 use Rattle.golden_shelf.proofs.weaving.weave_all.Given as goal
 
--- the walk over those that wait and the notes that are left comes to the walk over all, and so does what it takes
+-- the walk over those that wait and the notes that are left completes the walk over all, and so does what it replaces
 abbrev pub invariant-loop-index : goal.invariant-loop-index
 invariant-loop-index l = record {
   walk : l.rows.lines ++ woven l.rest.lines (drop l.index (notes_of l.fn.notes)) ≡ woven l.fn.rows.lines (notes_of l.fn.notes);

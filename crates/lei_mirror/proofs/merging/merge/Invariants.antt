@@ -4,7 +4,7 @@ use Rattle.copy_forms.specs.Merging.{merged}
 use Rattle.copy_forms.proofs.Passing.{alone}
 use Rattle.lei_mirror.proofs.merging.merge.Given as goal
 
--- what was put, with what the rows and the changes that are left make, is what all make
+-- what was put, followed by what the remaining rows and changes result in, is what all result in
 abbrev pub invariant-loop-index : goal.invariant-loop-index
 invariant-loop-index l = record {
   walk : l.made.items ++ flat_map alone (merged (drop l.index l.rows) (drop l.next l.changes)) ≡ flat_map alone (merged l.rows l.changes);

@@ -3,7 +3,7 @@ use Rattle.lei_mirror.specs.States.{AreTables}
 use Rattle.lei_mirror.proofs.SettlingLemmas.{GoesOn}
 use Rattle.lei_mirror.proofs.settling.settle.Given as goal
 
--- whatever settles the mirror with the tables of now settles it with the first ones
+-- whatever settles the mirror with the current tables settles it with the first ones
 abbrev pub invariant-loop-number : goal.invariant-loop-number
 invariant-loop-number l = record {
   goes : GoesOn l.tables l.kept l.now;

@@ -4,7 +4,7 @@ use Rattle.lei_shapes.specs.Shape.{between_spaces, texts_behind}
 use Rattle.lei_records.specs.Items.{has_other_remainder}
 use Rattle.lei_records.proofs.readying.one_has_other_remainder.Given as goal
 
--- one of those that are left has another remainder if and only if one of all has
+-- one of the texts that are left has another remainder if and only if one of all has
 abbrev pub invariant-loop-left : goal.invariant-loop-left
 invariant-loop-left l = list_any has_other_remainder (texts_behind l.left) ≡ list_any has_other_remainder (between_spaces l.text)
 

@@ -3,8 +3,8 @@ use Rattle.lei_records.specs.declared.readying.FieldCheck.{FieldCheck}
 use Rattle.lei_records.proofs.SheetLemmas.{first_in, printed_in}
 use Rattle.lei_records.proofs.readying.shaped_row.Given as goal
 
--- the first misshapen field of the rest is the first of all, and the texts so far, with those of the rest, are the texts of
--- the row
+-- the first misshapen field of the rest is the first of all; the texts so far, followed by those of the rest, are the
+-- row
 abbrev pub invariant-loop-index : goal.invariant-loop-index
 invariant-loop-index l = record {
   misshapen : first_in FieldCheck.Shape l.facts (drop l.index l.table) (drop l.index l.texts) ≡ first_in FieldCheck.Shape l.facts l.table l.texts;

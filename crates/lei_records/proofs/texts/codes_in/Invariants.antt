@@ -2,7 +2,7 @@ use Rattle.std.proofs.Common.{◌≡◌, ◌++◌, length}
 use Rattle.lei_shapes.specs.Shape.{between_spaces, texts_behind}
 use Rattle.lei_records.proofs.texts.codes_in.Given as goal
 
--- the codes so far, with those of the texts that are left, are those of all
+-- the LEIs so far, followed by those of the text that is left, are those of the whole text
 abbrev pub invariant-loop-left : goal.invariant-loop-left
 invariant-loop-left l = l.codes ++ texts_behind l.left ≡ between_spaces l.text
 

@@ -2,7 +2,7 @@ use Rattle.std.proofs.Common.{take}
 use Rattle.name_search.specs.Keys.{AreKeysOf}
 use Rattle.name_search.proofs.gathering.put_list.Given as goal
 
--- the keys so far were put, and those before them are still there
+-- the keys so far were added, and the earlier ones are still there
 abbrev pub invariant-loop-key : goal.invariant-loop-key
 invariant-loop-key l = record {
   stay : AreKeysOf l.fn.keys.keys l.keys.keys;

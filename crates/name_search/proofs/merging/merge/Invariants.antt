@@ -7,7 +7,7 @@ use Rattle.name_search.specs.Puts.{put_names}
 use Rattle.name_search.proofs.Walked.{WalkedSo}
 use Rattle.name_search.proofs.merging.merge.Given as goal
 
--- what was put, with what is left of the rows and of the changes, is all
+-- what was put, with what the remaining rows and changes result in, is all
 abbrev pub invariant-loop-change : goal.invariant-loop-change
 invariant-loop-change l = record {
   walked : WalkedSo l.fn.rows.items l.changes l.rows.items l.change-index l.out.items;

@@ -4,7 +4,7 @@ use Rattle.name_search.specs.NameTables.{named}
 use Rattle.name_search.specs.Walks.{is_noted}
 use Rattle.name_search.proofs.opening.noted_rows.Given as goal
 
--- the rows so far were made, each by one step, and are noted
+-- the rows so far were built, in one step each, and are noted
 abbrev pub invariant-loop-row : goal.invariant-loop-row
 invariant-loop-row g l = record {
   names : l.made.items ≡ map named (take l.row-index l.rows);

@@ -2,7 +2,7 @@ use Rattle.std.proofs.Common.{◌≤◌, ◌-◌, length}
 use Rattle.name_search.specs.Places.{IsAbove, IsBelow}
 use Rattle.name_search.proofs.places.row_at.Given as goal
 
--- the key stands after those before one place, and before those from another place on
+-- the key is after those before one place, and before those from another place on
 abbrev pub invariant-loop-low : goal.invariant-loop-low
 invariant-loop-low l = record {
   within : l.high ≤ length l.rows;

@@ -4,7 +4,7 @@ use Rattle.register_demo.specs.Requests.{uploads_from, uploads_of}
 use Rattle.register_demo.proofs.Stages.{Sending}
 use Rattle.register_demo.proofs.asking.send_uploads.Given as goal
 
--- the uploads of the blocks so far were sent, and those from this one on are left; the sink is the same
+-- the uploads of the blocks before this one were sent, and those starting with this one are left
 abbrev pub invariant-loop-block : goal.invariant-loop-block
 invariant-loop-block g l =
     (1 ≤ l.block) × (l.block ≤ block_count l.uploads.n + 1) × (l.told + 1 ≤ l.block)

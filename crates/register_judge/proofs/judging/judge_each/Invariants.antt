@@ -4,8 +4,8 @@ use Rattle.register_judge.specs.Overlays.{cells_in}
 use Rattle.register_judge.proofs.ReadLemmas.{Admits, IsSoFar}
 use Rattle.register_judge.proofs.judging.judge_each.Given as goal
 
--- what was judged so far with what comes of the items left is what comes of all, over each view that answers what was
--- noted
+-- what was judged so far, followed by the judgement of the items left, is the judgement of all, over each view that
+-- answers what was noted
 abbrev pub invariant-loop-item : goal.invariant-loop-item
 invariant-loop-item g l = record {
   so_far : IsSoFar l.progress.noted (g.V.View.cells l.view) l.sitting l.progress.added l.progress.verdicts.items l.progress.writes.items

@@ -9,7 +9,7 @@ use Rattle.register_words.specs.declared.request.Request.TheVariants.{Delta}
 use Rattle.register_state.proofs.Shelved.{IsToldOf, delta-told}
 use Rattle.register_state.proofs.publishing.delta.Goals as goal
 
--- where a shelf gives a fault
+-- the reply if a shelf reports a fault
 abbrev told_fault : Base → Sheet → Form → Trail → ShelfFault → Type 0
 told_fault base sheet form trail fault = IsToldOf (Delta base sheet form) (delta_outcome base sheet form trail) form (Err fault)
 

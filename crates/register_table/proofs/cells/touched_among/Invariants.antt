@@ -4,7 +4,7 @@ use Rattle.register_table.specs.Cells.{AreOwnCells, AreOwnItems, under_texts}
 use Rattle.register_table.specs.Touched.{is_touched, shown}
 use Rattle.register_table.proofs.cells.touched_among.Given as goal
 
--- what was told, with what is left to tell, is what all tell; and each item stands under its own key
+-- the list so far, followed by the touched cells that are left, is all touched cells; each item is under its own key
 abbrev pub invariant-loop-key : goal.invariant-loop-key
 invariant-loop-key l = record {
   told : map shown l.list.items ++ filter (λ cell. is_touched l.after l.upto cell.1) (map under_texts l.key-iterator)

@@ -3,7 +3,7 @@ use Rattle.register_table.specs.Cells.{AreOwnCells, AreOwnItems, under_texts, un
 use Rattle.register_table.specs.Touched.{shown}
 use Rattle.register_table.proofs.cells.touched_in.Given as goal
 
--- what was told, with what is left to tell, is what all tell; and each item stands under its own key
+-- the list so far, followed by the slots that are left, is all slots; each item is under its own key
 abbrev pub invariant-loop-key : goal.invariant-loop-key
 invariant-loop-key l = record {
   told : map shown l.list.items ++ map under_texts (unlent l.key-iterator) ≡ map under_texts (unlent l.slots.entries);

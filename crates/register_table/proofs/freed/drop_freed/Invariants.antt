@@ -3,7 +3,7 @@ use Rattle.register_table.specs.declared.parts.Note.{Note}
 use Rattle.register_table.specs.Parts.{AreParts, IsNoteWithin, Stays, noted, taken}
 use Rattle.register_table.proofs.freed.drop_freed.Given as goal
 
--- of the notes so far each key was seen to
+-- each key of the notes so far that the indexes still have has an LEI
 abbrev pub invariant-loop-note : goal.invariant-loop-note
 invariant-loop-note l = record {
   cells : l.parts.cells ≡ l.fn.parts.cells;

@@ -4,7 +4,7 @@ use Rattle.register_table.specs.Held.{rows}
 use Rattle.register_table.specs.Parts.{AreParts, IsNoteWithin, Stays, held_by, noted, taken}
 use Rattle.register_table.proofs.freed.free_keys.Given as goal
 
--- of the notes so far each key was seen to
+-- each key of the notes so far that has an LEI is held by a row
 abbrev pub invariant-loop-note : goal.invariant-loop-note
 invariant-loop-note l = record {
   cells : l.parts.cells ≡ l.fn.parts.cells;

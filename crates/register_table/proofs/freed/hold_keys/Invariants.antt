@@ -3,7 +3,7 @@ use Rattle.register_table.specs.declared.parts.Note.{Note}
 use Rattle.register_table.specs.Parts.{AreParts, IsNoteOf, Stays, noted, taken}
 use Rattle.register_table.proofs.freed.hold_keys.Given as goal
 
--- under each key of the notes so far a LEI stands
+-- each key of the notes so far has an LEI
 abbrev pub invariant-loop-note : goal.invariant-loop-note
 invariant-loop-note l = record {
   cells : l.parts.cells ≡ l.fn.parts.cells;

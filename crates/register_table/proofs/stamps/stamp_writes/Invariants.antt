@@ -8,7 +8,7 @@ use Rattle.register_table.specs.Stamps.{AreInOrder, AreStamped, HasStamp}
 use Rattle.register_table.specs.Undos.{IsLater}
 use Rattle.register_table.proofs.stamps.stamp_writes.Given as goal
 
--- the keys of the writes so far are stamped, and the cells of lower numbers still are
+-- the keys of the writes so far are stamped, and the cells with lower numbers still are
 abbrev pub invariant-loop-write : goal.invariant-loop-write
 invariant-loop-write l = record {
   order : AreInOrder l.stamps.items;

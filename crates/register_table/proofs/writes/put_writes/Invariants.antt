@@ -4,7 +4,8 @@ use Rattle.register_table.specs.Parts.{AreParts, CanBeUndone, Stays, note_of, no
 use Rattle.register_table.specs.Undos.{AreOwn, StaysKept, touch_all, undone}
 use Rattle.register_table.proofs.writes.put_writes.Given as goal
 
--- the rest put into the cells so far is all put into the first cells, and the notes lead back to these
+-- the remaining writes put into the cells so far give all writes put into the first cells, and the notes lead back to
+-- the first cells
 abbrev pub invariant-loop-write : goal.invariant-loop-write
 invariant-loop-write l =
     let rest = drop l.write-index l.writes in

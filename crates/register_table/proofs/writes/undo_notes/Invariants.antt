@@ -3,7 +3,7 @@ use Rattle.register_table.specs.Parts.{AreParts, CanBeUndone, Stays, note_of, no
 use Rattle.register_table.specs.Undos.{undone}
 use Rattle.register_table.proofs.writes.undo_notes.Given as goal
 
--- the notes that are left can be put back, and come to what all come to
+-- the notes that are left can be put back, and give the same cells as all notes
 abbrev pub invariant-loop-left : goal.invariant-loop-left
 invariant-loop-left l = record {
   inside : l.left ≤ length l.notes;

@@ -39,7 +39,7 @@ last-frame-requires g c =
     _ _ _ _ _ _ _ _ _ _ _ _ _ _ at reads c.use_up.ensures c.in-Ok.ensures.ok in
     (at.since ++ c.in-Ok.ensures.ok.0, subst H (sym c.bytes-then-count-eq0.ensures) held)
 
--- ---- where more has to be read
+-- ---- more has to be read
 
 pub returns-in-Err-clause-serves : goal.returns-in-Err-clause-serves
 returns-in-Err-clause-serves g c =
@@ -124,7 +124,7 @@ loop-count-smaller-else-taken-intake g c =
     omega (arith, few, at.below, c.if-taken-intake.false) in
     smaller_more rules (holding c.front.new.self) _ _ _ _ _ _ _ _ _ _ _ _ reads c.use_up.ensures c.in-Ok.ensures.ok some below
 
--- ---- where frames are refused
+-- ---- frames are refused
 
 pub loop-count-preserved-in-Ok-send_refused : goal.loop-count-preserved-in-Ok-send_refused
 loop-count-preserved-in-Ok-send_refused g c =
@@ -173,7 +173,7 @@ returns-in-Err-send_refused-clause-serves g c =
     (holding c.front.new.self) _ _ _ _ _ _ _ _ _ _ (g.L.Wire.written c.send_refused.new.link) c.in-Err-send_refused.fault
     c.requires.fits at reads c.in-Err-send_refused.ensures.sent c.in-Err-send_refused.ensures.left)
 
--- ---- where a frame is whole
+-- ---- a frame is whole
 
 pub answer_frame-requires : goal.answer_frame-requires
 answer_frame-requires g c =

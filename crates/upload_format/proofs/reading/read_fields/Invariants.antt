@@ -6,7 +6,7 @@ use Rattle.upload_format.specs.Bodies.{fields_of}
 use Rattle.upload_format.proofs.Loops.{names_with, with_front}
 use Rattle.upload_format.proofs.reading.read_fields.Given as goal
 
--- the fields so far, and those of the members that are left, are those of all members
+-- the fields so far, followed by those of the members that are left, are those of all members
 abbrev pub invariant-loop-name : goal.invariant-loop-name
 invariant-loop-name l = record {
   texts : with_front l.fields (fields_of (members_view l.name-iterator)) ≡ fields_of (members_view l.fn.members.entries);

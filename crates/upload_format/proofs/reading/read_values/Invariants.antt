@@ -5,7 +5,7 @@ use Rattle.upload_format.specs.Bodies.{list_of}
 use Rattle.upload_format.proofs.Loops.{with_front}
 use Rattle.upload_format.proofs.reading.read_values.Given as goal
 
--- the items so far, and those of the values that are left, are the first ones and those of all values
+-- the items so far, followed by those of the values that are left, are the first items followed by those of all values
 abbrev pub invariant-loop-value : goal.invariant-loop-value
 invariant-loop-value l = record {
   told : with_front l.items.items (list_of l.kind (items_view (into_iter_items l.value-iterator)))

@@ -4,7 +4,7 @@ use Rattle.copy_csv.specs.CsvReading.{line_from, with_texts}
 use Rattle.copy_csv.specs.Cuts.{IsCut, cut}
 use Rattle.copy_csv.proofs.csv_read.Reader.line.Given as goal
 
--- the texts that were read, with what the rest gives, are what all gives
+-- the texts that were read, followed by those that the rest gives, are those that all bytes give
 abbrev pub invariant-loop-index : goal.invariant-loop-index
 invariant-loop-index l = record {
   ahead : with_texts (cut l.bytes.items l.ends) (line_from (l.count - l.index) l.self) ≡ line_from l.count l.initial.self;

@@ -3,7 +3,7 @@ use Rattle.fetched_cells.specs.Filling.{member_keys}
 use Rattle.fetched_cells.proofs.FillLemmas.{Goes}
 use Rattle.fetched_cells.proofs.filling.Filling.add_walk.Given as goal
 
--- the cells of the members from this one are what is left to add
+-- the cells of the members from this one on are left to add
 abbrev pub invariant-loop : goal.invariant-loop
 invariant-loop g l =
     let cell = g.C.Chain.cell l.chain in

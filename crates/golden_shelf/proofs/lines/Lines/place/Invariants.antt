@@ -5,7 +5,7 @@ use Rattle.golden_shelf.specs.Keys.{key_texts}
 use Rattle.golden_shelf.proofs.Woven.{AreBelow}
 use Rattle.golden_shelf.proofs.lines.Lines.place.Given as goal
 
--- the lines before `low` stand before the key, and those from `high` on behind it
+-- the lines before `low` are before the key, and those from `high` on are after it
 abbrev pub invariant-loop-low : goal.invariant-loop-low
 invariant-loop-low l = record {
   below : AreBelow (key_texts l.key) (take l.low l.self.lines);

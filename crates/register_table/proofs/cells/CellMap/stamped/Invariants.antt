@@ -2,7 +2,7 @@ use Rattle.register_table.specs.Cells.{AreOwnCells, held_in, unlent}
 use Rattle.register_table.proofs.StampLemmas.{AreAmong, AreFound, AreWithin}
 use Rattle.register_table.proofs.cells.CellMap.stamped.Given as goal
 
--- what was found is held and touched, and all that the stamps so far lead to was found; and each slot is of its own key
+-- what was found is held and touched, all that the stamps so far lead to was found, and each slot is under its own key
 abbrev pub invariant-loop-stamp : goal.invariant-loop-stamp
 invariant-loop-stamp l = record {
   among : AreAmong l.self (held_in (unlent l.slots.entries));
