@@ -6,8 +6,8 @@ use Rattle.std.specs.Option.{option_or}
 use Rattle.std.proofs.lemmas.List.Elements.{All-cons, All-nil}
 use Rattle.lei_code.specs.Texts.{Lei, Text}
 use Rattle.lei_records.specs.Cells.{lei_in, successor_in, successors_in}
-use Rattle.lei_records.specs.Checks.{FailedCheck, Finding, IsNumber, first_failing}
-use Rattle.lei_records.specs.Items.{failed_check, failed_field, is_withdrawal, item_of, miscoded_field, misshapen_field, missing_field, ready, readied, row_of, unknown_name}
+use Rattle.lei_records.specs.Checks.{FailedCheck, Finding, IsCheckNumber, first_failing}
+use Rattle.lei_records.specs.Items.{failed_check, failed_field, says_withdraw, item_of, miscoded_field, misshapen_field, missing_field, ready, readied_as, row_of, unknown_name}
 use Rattle.lei_records.specs.Rows.{Row}
 use Rattle.lei_records.specs.Tables.{Table, other_holder, put_all, record_count, record_of}
 use Rattle.lei_records.specs.declared.fields.Kind.{Kind}
@@ -20,25 +20,25 @@ use Rattle.register_judge.specs.declared.sitting.Sitting.{Sitting}
 use Rattle.register_judge.specs.Checks.{c19, c20, event_checks, first_checks, held_checks, last_checks, late_checks, level_checks, own_checks, successor_checks}
 use Rattle.register_judge.specs.Sittings.{is_at_limit}
 use Rattle.register_judge.specs.Taking.{item_checks, take, verdict, verdict_of, writes_of}
-use Rattle.answer_texts.specs.Answers.{IsTold}
+use Rattle.answer_texts.specs.Answers.{HasItsCheck}
 
 -- there is a check of the number of each finding
 abbrev AreNumbered : List Finding → Type 0
 AreNumbered [] = Unit {0}
-AreNumbered (finding ∷ findings) = IsNumber finding.number × AreNumbered findings
+AreNumbered (finding ∷ findings) = IsCheckNumber finding.number × AreNumbered findings
 
 both-numbered : (first second : List Finding) → AreNumbered first → AreNumbered second → AreNumbered (first ++ second)
 both-numbered [] second numbered others = others
 both-numbered (finding ∷ first) second numbered others = (numbered.0, both-numbered first second numbered.1 others)
 
-first-numbered : (findings : List Finding) (check : FailedCheck) → AreNumbered findings → first_failing findings ≡ Some check → IsNumber check.number
+first-numbered : (findings : List Finding) (check : FailedCheck) → AreNumbered findings → first_failing findings ≡ Some check → IsCheckNumber check.number
 first-numbered [] check numbered is = cc
 first-numbered (finding ∷ findings) check numbered is =
-    elim finding.fails as (λ b. cond b (Some (record { number = finding.number; detail = finding.detail })) (first_failing findings) ≡ Some check → IsNumber check.number) [
+    elim finding.fails as (λ b. cond b (Some (record { number = finding.number; detail = finding.detail })) (first_failing findings) ≡ Some check → IsCheckNumber check.number) [
       | true ↦ λ told.
           let own : FailedCheck = record { number = finding.number; detail = finding.detail } in
           let same : own ≡ check = cc in
-          let N : FailedCheck → Type 0 = λ c. IsNumber c.number in
+          let N : FailedCheck → Type 0 = λ c. IsCheckNumber c.number in
           subst N same numbered.0
       | false ↦ λ told. first-numbered findings check numbered.1 told
     ] is
@@ -87,22 +87,22 @@ item-numbered table sitting (Item.Exception item) = (refl, (refl, (refl, (refl, 
 
 -- ---- the checks of fields
 
-field-numbered : (number : ℕ) (found : Option Text) (others : Option FailedCheck) (check : FailedCheck) → IsNumber number → (others ≡ Some check → IsNumber check.number)
-    → option_or (option_map (failed_field number) found) others ≡ Some check → IsNumber check.number
+field-numbered : (number : ℕ) (found : Option Text) (others : Option FailedCheck) (check : FailedCheck) → IsCheckNumber number → (others ≡ Some check → IsCheckNumber check.number)
+    → option_or (option_map (failed_field number) found) others ≡ Some check → IsCheckNumber check.number
 field-numbered number None others check numbered rest is = rest is
 field-numbered number (Some name) others check numbered rest is =
     let same : failed_field number name ≡ check = cc in
-    let N : FailedCheck → Type 0 = λ c. IsNumber c.number in
+    let N : FailedCheck → Type 0 = λ c. IsCheckNumber c.number in
     subst N same numbered
 
-last-numbered : (number : ℕ) (found : Option Text) (check : FailedCheck) → IsNumber number → option_map (failed_field number) found ≡ Some check → IsNumber check.number
+last-numbered : (number : ℕ) (found : Option Text) (check : FailedCheck) → IsCheckNumber number → option_map (failed_field number) found ≡ Some check → IsCheckNumber check.number
 last-numbered number None check numbered is = cc
 last-numbered number (Some name) check numbered is =
     let same : failed_field number name ≡ check = cc in
-    let N : FailedCheck → Type 0 = λ c. IsNumber c.number in
+    let N : FailedCheck → Type 0 = λ c. IsCheckNumber c.number in
     subst N same numbered
 
-fields-numbered : (rules : Rules) (kind : Kind) (pairs : List (Text × Text)) (check : FailedCheck) → failed_check rules kind pairs ≡ Some check → IsNumber check.number
+fields-numbered : (rules : Rules) (kind : Kind) (pairs : List (Text × Text)) (check : FailedCheck) → failed_check rules kind pairs ≡ Some check → IsCheckNumber check.number
 unfolding failed_check
 fields-numbered rules kind pairs check is =
     field-numbered 1 (unknown_name rules kind pairs) _ check refl
@@ -111,30 +111,30 @@ fields-numbered rules kind pairs check is =
 
 -- ---- verdicts
 
-of_failed : (failed : Option FailedCheck) → ((check : FailedCheck) → failed ≡ Some check → IsNumber check.number) → IsTold (verdict_of failed)
+of_failed : (failed : Option FailedCheck) → ((check : FailedCheck) → failed ≡ Some check → IsCheckNumber check.number) → HasItsCheck (verdict_of failed)
 of_failed None numbered = tt
 of_failed (Some check) numbered = numbered check refl
 
-of_item : (table : Table) (sitting : Sitting) (item : Item) → IsTold (verdict table sitting (Readied.Good item))
+of_item : (table : Table) (sitting : Sitting) (item : Item) → HasItsCheck (verdict table sitting (Readied.Good item))
 of_item table sitting item =
     let findings = item_checks table sitting item in
     of_failed (first_failing findings) (λ check is. first-numbered findings check (item-numbered table sitting item) is)
 
 of_readied : (rules : Rules) (table : Table) (sitting : Sitting) (kind : Kind) (pairs : List (Text × Text)) (failed : Option FailedCheck) → failed_check rules kind pairs ≡ failed
-    → IsTold (verdict table sitting (readied kind pairs failed))
-of_readied rules table sitting kind pairs None is = of_item table sitting (item_of kind (is_withdrawal pairs) (row_of kind pairs))
+    → HasItsCheck (verdict table sitting (readied_as kind pairs failed))
+of_readied rules table sitting kind pairs None is = of_item table sitting (item_of kind (says_withdraw pairs) (row_of kind pairs))
 of_readied rules table sitting kind pairs (Some check) is = fields-numbered rules kind pairs check is
 
-of_raw : (rules : Rules) (table : Table) (sitting : Sitting) (raw : RawItem) → IsTold (verdict table sitting (ready rules raw))
+of_raw : (rules : Rules) (table : Table) (sitting : Sitting) (raw : RawItem) → HasItsCheck (verdict table sitting (ready rules raw))
 of_raw rules table sitting (RawItem.Record pairs) = of_readied rules table sitting Kind.Record pairs (failed_check rules Kind.Record pairs) refl
 of_raw rules table sitting (RawItem.Relation pairs) = of_readied rules table sitting Kind.Relation pairs (failed_check rules Kind.Relation pairs) refl
 of_raw rules table sitting (RawItem.Exception pairs) = of_readied rules table sitting Kind.Exception pairs (failed_check rules Kind.Exception pairs) refl
 
-pub all_told : (rules : Rules) (table : Table) (sitting : Sitting) (raws : List RawItem) → All IsTold (take table sitting (map (ready rules) raws)).verdicts
-all_told rules table sitting [] = All-nil IsTold
+pub all_told : (rules : Rules) (table : Table) (sitting : Sitting) (raws : List RawItem) → All HasItsCheck (take table sitting (map (ready rules) raws)).verdicts
+all_told rules table sitting [] = All-nil HasItsCheck
 all_told rules table sitting (raw ∷ raws) =
     let given = verdict table sitting (ready rules raw) in
-    All-cons IsTold given _ (of_raw rules table sitting raw) (all_told rules (put_all (writes_of given (ready rules raw)) table) sitting raws)
+    All-cons HasItsCheck given _ (of_raw rules table sitting raw) (all_told rules (put_all (writes_of given (ready rules raw)) table) sitting raws)
 
 -- the text of a check that has one
 pub told_text : (told : Option Text) (text bytes : Text) → told ≡ Some text → IfSome told (λ written. bytes ≡ written) → bytes ≡ unwrap_or told []

@@ -5,7 +5,7 @@ use Rattle.serde_json.specs.Written.{compact_text}
 use Rattle.lei_code.specs.Texts.{Lei, Text}
 use Rattle.lei_shapes.specs.Clock.{moment_text}
 use Rattle.register_judge.specs.declared.outcome.Verdict.{Verdict}
-use Rattle.lei_records.specs.Checks.{IsNumber, check_text}
+use Rattle.lei_records.specs.Checks.{IsCheckNumber, check_text}
 use Rattle.upload_ledger.specs.declared.totals.Totals.{Totals}
 
 -- the answer when the entry of this number accredits an issuer
@@ -23,9 +23,9 @@ verdict_text Verdict.Accepted = codes "ACCEPTED"
 verdict_text (Verdict.Rejected check) = unwrap_or (check_text check) []
 
 -- if the verdict is that a check fails, there is a check of this number
-abbrev pub IsTold : Verdict → Type 0
-IsTold Verdict.Accepted = Unit {0}
-IsTold (Verdict.Rejected check) = IsNumber check.number
+abbrev pub HasItsCheck : Verdict → Type 0
+HasItsCheck Verdict.Accepted = Unit {0}
+HasItsCheck (Verdict.Rejected check) = IsCheckNumber check.number
 
 -- the items of an array of texts
 abbrev pub strings : List Text → Items
@@ -72,5 +72,5 @@ status_answer totals held =
     (member (codes "relationships") (number (unsigned held.1)) no_members)))))))
 
 -- its text
-unfoldable pub status_text : Totals → ℕ × ℕ × ℕ → Text
-status_text totals held = compact_text (status_answer totals held)
+unfoldable pub status_answer_text : Totals → ℕ × ℕ × ℕ → Text
+status_answer_text totals held = compact_text (status_answer totals held)

@@ -1,7 +1,7 @@
 //! Builds the texts of answers.
 ghost use Rattle.std.specs.Prelude.{◌≡◌, IfOk, IsAscii, map, string_bytes};
 ghost use Rattle.serde_json.specs.View.{view, items_view};
-ghost use Rattle.answer_texts.specs.Answers.{accreditation_answer, accreditation_text, publication_answer, publication_text, status_answer, status_text, upload_answer, upload_text, verdict_text, strings};
+ghost use Rattle.answer_texts.specs.Answers.{accreditation_answer, accreditation_text, publication_answer, publication_text, status_answer, status_answer_text, upload_answer, upload_text, verdict_text, strings};
 
 use lei_code::Lei;
 use lei_outside::{Bytes, NoMemory};
@@ -109,7 +109,7 @@ fn ascii(bytes: &[u8]) -> &str
 // The answer to a request for the status: the totals of the ledger, and the numbers of records, relationships and
 // exceptions that are held.
 pub fn status_text(alloc: Global, totals: Totals, held: (u64, u64, u64)) -> Result<Bytes, NoMemory>
-    ensures { IfOk result (λ text. text ≡ status_text totals held) }
+    ensures { IfOk result (λ text. text ≡ status_answer_text totals held) }
 {
     let answer = status_answer(alloc, totals, held)?;
     Ok(Bytes::from(answer.to_vec(alloc)?))

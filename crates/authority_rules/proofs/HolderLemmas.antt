@@ -14,7 +14,7 @@ use Rattle.std.proofs.lemmas.Map.Text.{is_eq-slice_cmp}
 use Rattle.lei_records.specs.declared.view.Seen.{Seen}
 use Rattle.lei_records.specs.Cells.{Cells, lei_in, akey, holds}
 use Rattle.lei_records.specs.Rows.{Row}
-use Rattle.lei_records.specs.Tables.{KeyTexts, Table, key_cmp, record_key, row_at, records_of, holder_of, holds_key, other_holder, seen, cells_of, IsKeyed, AuthorityKeysAreUnique, IsSound}
+use Rattle.lei_records.specs.Tables.{KeyTexts, Table, key_cmp, record_key, row_at, records_of, holder_of, holds_key, other_holder, seen, cells_of, IsKeyed, AuthorityKeysAreUnique, IsSoundTable}
 use Rattle.authority_rules.specs.Taken.{unless_own, seen_holder, taken}
 use Rattle.authority_rules.proofs.MapLemmas.{find-values, values-find}
 
@@ -176,5 +176,5 @@ taken-cells table row keyed holders =
     ap (unless_own (lei_in row)) (key_seen table (akey row)) ∙ other_holder-seen table row keyed holders
 
 -- and for a view that answers the cells of a sound table
-pub taken-over_table : (cells : Cells) (table : Table) (row : Row) → IsSound table → cells ≡ cells_of table → taken cells row ≡ seen (other_holder table row)
+pub taken-over_table : (cells : Cells) (table : Table) (row : Row) → IsSoundTable table → cells ≡ cells_of table → taken cells row ≡ seen (other_holder table row)
 taken-over_table cells table row sound same = ap (λ answers. taken answers row) same ∙ taken-cells table row sound.keyed sound.holders

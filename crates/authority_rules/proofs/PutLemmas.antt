@@ -6,10 +6,10 @@ use Rattle.std.specs.Str.{bytes_eq}
 use mathlib.Core.Bool.{true≢false}
 use Rattle.std.proofs.Common.{refl, sym, ap, subst, ◌∙◌}
 use Rattle.lei_records.specs.declared.item.Item.{Item}
-use Rattle.lei_records.specs.Cells.{lei_in, rec_cell, is_live, akey, is_key, holds}
+use Rattle.lei_records.specs.Cells.{lei_in, rec_cell, is_live, akey, is_authority_key, holds}
 use Rattle.lei_records.specs.Rows.{Row}
-use Rattle.lei_records.specs.Spelled.{IsRow}
-use Rattle.lei_records.specs.Tables.{KeyTexts, Table, key_cmp, record_key, put, row_at, record_of, holder_of, holds_key, IsKeyed, AuthorityKeysAreUnique, HasRows, IsSound}
+use Rattle.lei_records.specs.Spelled.{IsRecordRow}
+use Rattle.lei_records.specs.Tables.{KeyTexts, Table, key_cmp, record_key, put, row_at, record_of, holder_of, holds_key, IsKeyed, AuthorityKeysAreUnique, HasRows, IsSoundTable}
 use Rattle.authority_rules.specs.Taken.{IsFree}
 use Rattle.authority_rules.proofs.HolderLemmas.{keys_total, same_key, key_eq, bytes_same, bytes_itself, Hit, first_of-hit, hit-first_of, first_of-none, first_of-only, hit_code, both_true, first_true, second_true, some_apart, is_other}
 
@@ -57,15 +57,15 @@ IsKeyed-put table row keyed key other at =
       | false ↦ λ t is. keyed key other is
     ] refl known
 
-HasRows-put : (table : Table) (row : Row) → IsRow row → HasRows table → HasRows (with_row table row)
+HasRows-put : (table : Table) (row : Row) → IsRecordRow row → HasRows table → HasRows (with_row table row)
 HasRows-put table row is_row rows key other at =
     let known : cond (eq_by_cmp key_cmp key (record_key (lei_in row))) (Some row) (get table.records key) ≡ Some other = sym (get-with_row table row key) ∙ at in
-    elim (eq_by_cmp key_cmp key (record_key (lei_in row))) as (λ b. cond b (Some row) (get table.records key) ≡ Some other → IsRow other) [
-      | true ↦ λ is. let same : row ≡ other = cc in subst IsRow same is_row
+    elim (eq_by_cmp key_cmp key (record_key (lei_in row))) as (λ b. cond b (Some row) (get table.records key) ≡ Some other → IsRecordRow other) [
+      | true ↦ λ is. let same : row ≡ other = cc in subst IsRecordRow same is_row
       | false ↦ λ is. rows key other is
     ] known
 
-key_of-is : (authority id : List ℕ) (key : Option (List ℕ × List ℕ)) → is_key authority id key ≡ true → key ≡ Some (authority, id)
+key_of-is : (authority id : List ℕ) (key : Option (List ℕ × List ℕ)) → is_authority_key authority id key ≡ true → key ≡ Some (authority, id)
 key_of-is authority id None is = let clash : false ≡ true = is in absurd (true≢false (sym clash))
 key_of-is authority id (Some key) is =
     let a : key.0 ≡ authority = bytes_same key.0 authority (first_true _ _ is) in
@@ -105,8 +105,8 @@ AuthorityKeysAreUnique-put table row keyed holders free authority id a b first s
     (λ other_b was_b. holders authority id a b first second was_a was_b holds_a holds_b))
 
 -- a free row keeps a sound table sound
-pub IsSound-put : (table : Table) (row : Row) → IsSound table → IsRow row → IsFree table row → IsSound (with_row table row)
-IsSound-put table row sound is_row free = record {
+pub IsSoundTable-put : (table : Table) (row : Row) → IsSoundTable table → IsRecordRow row → IsFree table row → IsSoundTable (with_row table row)
+IsSoundTable-put table row sound is_row free = record {
   keyed = IsKeyed-put table row sound.keyed;
   holders = AuthorityKeysAreUnique-put table row sound.keyed sound.holders free;
   rows = HasRows-put table row is_row sound.rows;

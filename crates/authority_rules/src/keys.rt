@@ -3,7 +3,7 @@ ghost use Rattle.std.specs.Prelude.{◌≡◌, option_map};
 ghost use Rattle.authority_rules.specs.Taken;
 ghost use Rattle.lei_records.specs.Cells.{akey, is_no_authority as names_none};
 ghost use Rattle.lei_records.specs.Cells;
-ghost use Rattle.lei_records.specs.Tables.{Table, IsSound, cells_of, other_holder, seen};
+ghost use Rattle.lei_records.specs.Tables.{Table, IsSoundTable, cells_of, other_holder, seen};
 
 use lei_code::Lei;
 use lei_records::{Record, Seen, View};
@@ -37,7 +37,8 @@ pub fn holds(item: &Record, authority: &str, id: &str) -> bool
 }
 
 fn is_key(key: Option<(&str, &str)>, authority: &str, id: &str) -> bool
-    ensures { result ≡ Cells.is_key authority.now id.now (option_map (λ k. (k.0.now, k.1.now)) key.entry) }
+    ensures { result ≡ Cells.is_authority_key authority.now id.now (option_map
+        (λ k. (k.0.now, k.1.now)) key.entry) }
 {
     match key {
         Some(key) => key.0 == authority && key.1 == id,
@@ -67,7 +68,7 @@ pub fn taken<V: View>(view: &V, item: &Record) -> Seen<Lei>
     ensures answers { result ≡ Taken.taken (V.cells view.now) item.now }
 
     // Over the cells of a sound table: of the other records that are live and have the key, the first by code.
-    ensures over_tables { (table : Table) → IsSound table → V.cells view.now ≡ cells_of table
+    ensures over_tables { (table : Table) → IsSoundTable table → V.cells view.now ≡ cells_of table
         → result ≡ seen (other_holder table item.now) }
 {
     unless_own(item.lei(), seen_holder(view, key_of(item)))

@@ -6,7 +6,7 @@ use Rattle.std.proofs.lemmas.List.Elements.{All-contains, Contains-get_or}
 use Rattle.lei_records.specs.declared.view.CellKey.{CellKey}
 use Rattle.lei_records.specs.declared.view.CellSeen.{CellSeen}
 use Rattle.lei_records.specs.Cells.{Cells}
-use Rattle.cell_reads.specs.Notes.{IsListed}
+use Rattle.cell_reads.specs.Notes.{IsListedKey}
 use Rattle.cell_reads.specs.Reads.{AnswersReads, HasCell, Listed}
 
 -- the view has what was read from the cell
@@ -25,5 +25,5 @@ all-taken P xs n past all = subst (All P) (take_all n xs past) all
 
 -- the cell with this key is listed at this index
 pub listed-at : (reads : Listed) (place : ℕ) (key : CellKey) (read : CellKey × CellSeen) → place < length reads → read ≡ get_or reads place read
-    → read.0 ≡ key → IsListed reads key
-listed-at reads place key read less at is = subst (IsListed reads) is (read.1, (place, less, sym at))
+    → read.0 ≡ key → IsListedKey reads key
+listed-at reads place key read less at is = subst (IsListedKey reads) is (read.1, (place, less, sym at))

@@ -9,10 +9,10 @@ use Rattle.lei_records.specs.declared.view.CellKey.{CellKey}
 use Rattle.lei_records.specs.declared.view.CellSeen.{CellSeen}
 use Rattle.lei_records.specs.declared.view.Seen.{Seen}
 use Rattle.lei_records.specs.Cells.{Cells}
-use Rattle.lei_records.specs.Walks.{members}
+use Rattle.lei_records.specs.Walks.{walk_members}
 use Rattle.relation_rules.specs.Needs.{lacks}
-use Rattle.successor_rules.specs.Walks.{SeenNext, held, known}
-use Rattle.cell_reads.specs.Notes.{IsCovered, IsListed, NotesCells}
+use Rattle.successor_rules.specs.Walks.{SeenNext, held_lei, known_next}
+use Rattle.cell_reads.specs.Notes.{IsCovered, IsListedKey, NotesCells}
 use Rattle.cell_reads.specs.Reads.{AnswersReads, HasCell, Listed}
 
 none_in : (key : CellKey) → Contains [] key → ⊥
@@ -37,7 +37,7 @@ notes-covered cells reads own covered = record {
   covers = λ key at. subst (IsCovered reads cells) (only own key at) covered;
 }
 
-pub notes-listed : (cells : Cells) (reads : Listed) (own : CellKey) → IsListed reads own → NotesCells cells reads reads (own ∷ [])
+pub notes-listed : (cells : Cells) (reads : Listed) (own : CellKey) → IsListedKey reads own → NotesCells cells reads reads (own ∷ [])
 notes-listed cells reads own listed = notes-covered cells reads own (inr listed)
 
 pub notes-lacking : (cells : Cells) (reads : Listed) (own : CellKey) → IsTrue (lacks cells own) → NotesCells cells reads reads (own ∷ [])
@@ -84,7 +84,7 @@ notes-then cells old between new first second before after = record {
 
 -- the cells of the first n members of a walk
 abbrev pub walk_keys : ℕ → SeenNext → (List ℕ → CellKey) → List ℕ → List CellKey
-walk_keys n answers cell first = map cell (members n (known answers) first)
+walk_keys n answers cell first = map cell (walk_members n (known_next answers) first)
 
 -- noting the members that are left, from this one on, completes the noting of the whole walk
 abbrev pub GoesOn : Cells → Listed → Listed → ℕ → SeenNext → (List ℕ → CellKey) → List ℕ → List ℕ → Type 0
@@ -93,22 +93,22 @@ GoesOn cells old now left answers cell member first =
 
 -- the cells of a walk from a member are its own, and those of the walk from the member that it names
 keys-suc : (n : ℕ) (answers : SeenNext) (cell : List ℕ → CellKey) (member : List ℕ)
-    → walk_keys (suc n) answers cell member ≡ cell member ∷ map cell (option_map_or (members n (known answers)) (known answers member) [])
-unfolding members
+    → walk_keys (suc n) answers cell member ≡ cell member ∷ map cell (option_map_or (walk_members n (known_next answers)) (known_next answers member) [])
+unfolding walk_members
 keys-suc n answers cell member = refl
 
 keys-next : (n : ℕ) (answers : SeenNext) (cell : List ℕ → CellKey) (member next : List ℕ) → answers member ≡ Seen.Held next
     → walk_keys (suc n) answers cell member ≡ cell member ∷ walk_keys n answers cell next
 keys-next n answers cell member next is =
-    keys-suc n answers cell member ∙ ap (λ seen. cell member ∷ map cell (option_map_or (members n (known answers)) (held seen) [])) is
+    keys-suc n answers cell member ∙ ap (λ seen. cell member ∷ map cell (option_map_or (walk_members n (known_next answers)) (held_lei seen) [])) is
 
-keys-last : (n : ℕ) (answers : SeenNext) (cell : List ℕ → CellKey) (member : List ℕ) → held (answers member) ≡ None
+keys-last : (n : ℕ) (answers : SeenNext) (cell : List ℕ → CellKey) (member : List ℕ) → held_lei (answers member) ≡ None
     → walk_keys (suc n) answers cell member ≡ cell member ∷ []
 keys-last n answers cell member is =
-    keys-suc n answers cell member ∙ ap (λ next. cell member ∷ map cell (option_map_or (members n (known answers)) next [])) is
+    keys-suc n answers cell member ∙ ap (λ next. cell member ∷ map cell (option_map_or (walk_members n (known_next answers)) next [])) is
 
 keys-zero : (answers : SeenNext) (cell : List ℕ → CellKey) (member : List ℕ) → walk_keys zero answers cell member ≡ []
-unfolding members
+unfolding walk_members
 keys-zero answers cell member = refl
 
 one_less : (c : ℕ) → c < 200 → 200 - c ≡ suc (200 - (c + 1))
@@ -125,18 +125,18 @@ module _ (cells : Cells) (old now after : Listed) (answers : SeenNext) (cell : L
 
   -- no next member is known
   walk-last : c < 200 → GoesOn cells old now (200 - c) answers cell member first → NotesCells cells now after (cell member ∷ [])
-      → held (answers member) ≡ None → NotesCells cells old after (walk_keys 200 answers cell first)
+      → held_lei (answers member) ≡ None → NotesCells cells old after (walk_keys 200 answers cell first)
   walk-last less goes_on noted is =
       let P : List CellKey → Type 0 = NotesCells cells now after in
       goes_on after (subst P (sym (ap (λ n. walk_keys n answers cell member) (one_less c less) ∙ keys-last (200 - (c + 1)) answers cell member is)) noted)
 
   pub walk-ends : c < 200 → GoesOn cells old now (200 - c) answers cell member first → NotesCells cells now after (cell member ∷ [])
       → answers member ≡ Seen.Empty → NotesCells cells old after (walk_keys 200 answers cell first)
-  walk-ends less goes_on noted is = walk-last less goes_on noted (ap held is)
+  walk-ends less goes_on noted is = walk-last less goes_on noted (ap held_lei is)
 
   pub walk-lacks : c < 200 → GoesOn cells old now (200 - c) answers cell member first → NotesCells cells now after (cell member ∷ [])
       → answers member ≡ Seen.Missing → NotesCells cells old after (walk_keys 200 answers cell first)
-  walk-lacks less goes_on noted is = walk-last less goes_on noted (ap held is)
+  walk-lacks less goes_on noted is = walk-last less goes_on noted (ap held_lei is)
 
 -- no members are left: all were noted
 pub walk-all : (cells : Cells) (old now : Listed) (answers : SeenNext) (cell : List ℕ → CellKey) (member first : List ℕ) (left : ℕ) → left ≡ 0

@@ -9,10 +9,10 @@ use Rattle.lei_records.specs.declared.view.CellKey.{CellKey}
 use Rattle.lei_records.specs.Cells.{Cells, akey, lei_in, successor_in, successors_in}
 use Rattle.lei_records.specs.Relations.{end_in}
 use Rattle.lei_records.specs.Rows.{Row}
-use Rattle.lei_records.specs.Walks.{members}
-use Rattle.successor_rules.specs.Levels.{SeenNexts, known_nexts, reached}
+use Rattle.lei_records.specs.Walks.{walk_members}
+use Rattle.successor_rules.specs.Levels.{SeenNexts, known_nexts, reachable}
 use Rattle.successor_rules.specs.Successors.{successor_seen, successors_seen}
-use Rattle.successor_rules.specs.Walks.{SeenNext, known}
+use Rattle.successor_rules.specs.Walks.{SeenNext, known_next}
 use Rattle.relation_rules.specs.Checks.{is_direct_parent}
 use Rattle.relation_rules.specs.Needs.{exception_names, relation_names}
 
@@ -32,11 +32,11 @@ abbrev pub record_names : Row → List CellKey
 record_names row = CellKey.Rec (lei_in row) ∷ (key_names (akey row) ++ successor_names (successors_in row))
 
 -- The cells that an item names. An item that failed the checks of its fields names none.
-abbrev pub names : Readied → List CellKey
-names (Readied.Bad check) = []
-names (Readied.Good (Item.Record row)) = record_names row
-names (Readied.Good (Item.Relation row)) = relation_names row
-names (Readied.Good (Item.Exception item)) = exception_names item.0
+abbrev pub named_cells : Readied → List CellKey
+named_cells (Readied.Bad check) = []
+named_cells (Readied.Good (Item.Record row)) = record_names row
+named_cells (Readied.Good (Item.Relation row)) = relation_names row
+named_cells (Readied.Good (Item.Exception item)) = exception_names item.0
 
 -- ---- the cells of walks
 
@@ -55,11 +55,11 @@ parent_key lei = CellKey.Act lei RelationType.IsDirectlyConsolidatedBy
 -- The records of the first 200 members of the walk along successors from this one, as far as the view knows it.
 abbrev pub successor_walk : Cells → Option Lei → List CellKey
 successor_walk cells None = []
-successor_walk cells (Some successor) = map CellKey.Rec (members 200 (known (next_successor cells)) successor)
+successor_walk cells (Some successor) = map CellKey.Rec (walk_members 200 (known_next (next_successor cells)) successor)
 
 -- The cells of the direct parents of the first 200 members of the walk from this LEI, as far as the view knows it.
 abbrev pub parent_walk : Cells → Lei → List CellKey
-parent_walk cells first = map parent_key (members 200 (known (parents_in cells)) first)
+parent_walk cells first = map parent_key (walk_members 200 (known_next (parents_in cells)) first)
 
 -- A view's answer for all successors that the record of an LEI names.
 abbrev pub next_successors : Cells → SeenNexts
@@ -68,7 +68,7 @@ next_successors cells lei = successors_seen (cells.record_cell lei)
 -- The records of the first 200 LEIs that the walk by levels reaches from these successors of an entity. It goes as far
 -- as the view knows.
 abbrev pub level_walk : Cells → Lei → List Lei → List CellKey
-level_walk cells own successors = map CellKey.Rec (reached (known_nexts (next_successors cells)) own successors)
+level_walk cells own successors = map CellKey.Rec (reachable (known_nexts (next_successors cells)) own successors)
 
 -- The cells of a record's walk: by the first rules the walk from its only successor, and by the later rules the walk by
 -- levels.
@@ -88,4 +88,4 @@ walk_cells rules cells (Readied.Good (Item.Exception item)) = []
 
 -- The cells that an item needs by the rules and by the answers of a view: those that it names, and those of its walk.
 abbrev pub needs : Rules → Cells → Readied → List CellKey
-needs rules cells item = names item ++ walk_cells rules cells item
+needs rules cells item = named_cells item ++ walk_cells rules cells item

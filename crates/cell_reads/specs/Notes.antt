@@ -8,12 +8,12 @@ use Rattle.relation_rules.specs.Needs.{lacks}
 use Rattle.cell_reads.specs.Reads.{AnswersReads, Listed}
 
 -- The cell with this key is listed, with whatever it had.
-abbrev pub IsListed : Listed → CellKey → Type 0
-IsListed reads key = (found : CellSeen) × Contains reads (key, found)
+abbrev pub IsListedKey : Listed → CellKey → Type 0
+IsListedKey reads key = (found : CellSeen) × Contains reads (key, found)
 
 -- The cell with this key is listed, or the view lacks it.
 abbrev pub IsCovered : Listed → Cells → CellKey → Type 0
-IsCovered reads cells key = IsTrue (lacks cells key) ⊎ IsListed reads key
+IsCovered reads cells key = IsTrue (lacks cells key) ⊎ IsListedKey reads key
 
 -- The cells with these keys were noted with what a view has in them. What was listed still is. If the view has what was
 -- listed before, it has what is listed now. Each cell with one of the keys is listed, unless the view lacks it.

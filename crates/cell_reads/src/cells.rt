@@ -14,22 +14,22 @@ pub fn found_in<V: View>(view: &V, key: &CellKey) -> Option<CellSeen>
         (λ found. HasCell (V.cells view.now) key.now found) }
 {
     match key {
-        CellKey::Rec(lei) => Some(CellSeen::Rec(known(view.record_cell(lei))?)),
+        CellKey::Rec(lei) => Some(CellSeen::Rec(known_content(view.record_cell(lei))?)),
         CellKey::Rel(start, kind, end) => {
-            Some(CellSeen::Rel(known(view.relation(start, *kind, end))?))
+            Some(CellSeen::Rel(known_content(view.relation(start, *kind, end))?))
         }
         CellKey::Exc(lei, category) => {
             Some(CellSeen::Exc(known_fact(view.exception(lei, *category))?))
         }
         CellKey::Key(authority, id) => {
-            Some(CellSeen::Key(known(view.holder(authority.as_str(), id.as_str()))?))
+            Some(CellSeen::Key(known_content(view.holder(authority.as_str(), id.as_str()))?))
         }
-        CellKey::Act(start, kind) => Some(CellSeen::Act(known(view.active(start, *kind))?)),
+        CellKey::Act(start, kind) => Some(CellSeen::Act(known_content(view.active(start, *kind))?)),
     }
 }
 
 // What the cell has, or `None` if the view lacks the cell.
-fn known<T: Copy>(seen: Seen<T>) -> Option<Option<T>>
+fn known_content<T: Copy>(seen: Seen<T>) -> Option<Option<T>>
     ensures { MatchOption result (seen ≡ SeenCell.Missing) (λ found. seen ≡ Tables.seen found) }
 {
     match seen {

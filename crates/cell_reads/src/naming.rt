@@ -5,7 +5,7 @@ ghost use Rattle.lei_records.specs.Parents;
 ghost use Rattle.lei_records.specs.Relations.{end_in, kind_in, start_in};
 ghost use Rattle.relation_rules.specs.Needs.{exception_keys, exception_names, relation_names};
 ghost use Rattle.cell_reads.specs.Needs;
-ghost use Rattle.cell_reads.specs.Needs.{key_names, names};
+ghost use Rattle.cell_reads.specs.Needs.{key_names, named_cells};
 
 use authority_rules::key_of;
 use lei_code::Lei;
@@ -17,7 +17,7 @@ use std::alloc::Global;
 
 /// The keys of the cells that items name, item by item.
 pub fn keys_of(alloc: Global, items: &[Readied]) -> Result<Vec<CellKey>, NoMemory>
-    ensures { IfOk result (λ keys. keys.items ≡ flat_map names items.now) }
+    ensures { IfOk result (λ keys. keys.items ≡ flat_map named_cells items.now) }
 {
     let mut keys = Vec::new(alloc);
     for item in items {
@@ -28,7 +28,7 @@ pub fn keys_of(alloc: Global, items: &[Readied]) -> Result<Vec<CellKey>, NoMemor
 
 /// Appends the keys of the cells that an item names.
 pub fn push_names(alloc: Global, keys: &mut Vec<CellKey>, item: &Readied) -> Result<(), NoMemory>
-    ensures { OnOk result (keys.new.items ≡ keys.old.items ++ names item.now) }
+    ensures { OnOk result (keys.new.items ≡ keys.old.items ++ named_cells item.now) }
 {
     match item {
         Readied::Bad(_) => Ok(()),

@@ -3,11 +3,11 @@ ghost use Rattle.std.specs.Prelude.{◌≡◌, ◌++◌, ◌∷◌, [], if◌the
 ghost use Rattle.lei_records.specs.declared.view.CellKey.{CellKey};
 ghost use Rattle.lei_records.specs.Cells.{lei_in, successor_in, successors_in};
 ghost use Rattle.lei_records.specs.Relations.{end_in};
-ghost use Rattle.lei_records.specs.Walks.{members};
-ghost use Rattle.successor_rules.specs.Walks.{known};
+ghost use Rattle.lei_records.specs.Walks.{walk_members};
+ghost use Rattle.successor_rules.specs.Walks.{known_next};
 ghost use Rattle.relation_rules.specs.Checks.{is_direct_parent};
 ghost use Rattle.cell_reads.specs.Needs.{level_walk, needs, parent_walk, record_walk, successor_walk, walk_cells};
-ghost use Rattle.cell_reads.specs.Notes.{IsListed, NotesCells};
+ghost use Rattle.cell_reads.specs.Notes.{IsListedKey, NotesCells};
 
 use crate::cells::found_in;
 use crate::naming::push_names;
@@ -63,7 +63,7 @@ impl Noted {
 
     // Whether the cell with this key is listed. It may be `false` for a listed cell whose index isn't known.
     fn lists(&self, key: &CellKey) -> bool
-        ensures { IsTrue result → IsListed self.now key.now }
+        ensures { IsTrue result → IsListedKey self.now key.now }
     {
         match self.place(key) {
             Some(place) => is_at(self.reads.as_slice(), place, key),
@@ -100,7 +100,7 @@ impl Noted {
 }
 
 fn is_at(reads: &[(CellKey, CellSeen)], place: usize, key: &CellKey) -> bool
-    ensures { IsTrue result → IsListed reads.now key.now }
+    ensures { IsTrue result → IsListedKey reads.now key.now }
 {
     if place >= reads.len() {
         return false;
@@ -263,7 +263,7 @@ fn note_walk<V: View, C: Chain>(
     first: Lei,
 ) -> Result<(), NoMemory>
     ensures { OnOk result (NotesCells (V.cells below.now) noted.old noted.new
-        (map (C.cell chain.now) (members 200 (known (C.answers chain.now)) first))) }
+        (map (C.cell chain.now) (walk_members 200 (known_next (C.answers chain.now)) first))) }
 {
     let mut member = first;
     for _ in 0..MOST_MEMBERS {

@@ -9,7 +9,7 @@ use Rattle.lei_code.specs.Texts.{Text}
 use Rattle.lei_records.specs.Rows.{text_at}
 use Rattle.std.proofs.lemmas.List.Folds.{list_all-append}
 use Rattle.std.proofs.lemmas.Str.{IsUtf8-from_is_utf8}
-use Rattle.copy_csv.specs.Cuts.{IsCut, IsSpan, Span, cut, holds_text, last_end, part, spans}
+use Rattle.copy_csv.specs.Cuts.{IsCut, IsSpan, Span, holds_text, last_end, part, parts_at_ends, spans}
 
 both : (a b : Bool) → a ≡ true → b ≡ true → (a && b) ≡ true
 both true b p q = q
@@ -140,9 +140,9 @@ span-of_later ends (suc k) start end some within from to =
 -- ---- texts
 
 -- a text is appended to the others
-pub cut-push : (bytes text ends : List ℕ) (end : ℕ) → IsCut bytes ends → end ≡ length (bytes ++ text)
-    → cut (bytes ++ text) (ends ++ end ∷ []) ≡ cut bytes ends ++ text ∷ []
-cut-push bytes text ends end is to =
+pub parts_at_ends-push : (bytes text ends : List ℕ) (end : ℕ) → IsCut bytes ends → end ≡ length (bytes ++ text)
+    → parts_at_ends (bytes ++ text) (ends ++ end ∷ []) ≡ parts_at_ends bytes ends ++ text ∷ []
+parts_at_ends-push bytes text ends end is to =
     let span : Span = record { start = last_end 0 ends; end = end } in
     ap (map (part (bytes ++ text))) (spans-push 0 ends end)
     ∙ map-append (part (bytes ++ text)) (spans 0 ends) (span ∷ [])
@@ -175,28 +175,28 @@ parts-utf8 bytes (span ∷ spans) all =
     both (is_utf8 (part bytes span)) (list_all is_utf8 (map (part bytes) spans)) h.utf8
     (parts-utf8 bytes spans (right (holds_text bytes span) (list_all (holds_text bytes) spans) all))
 
-pub cut-utf8_of : (bytes ends : List ℕ) → IsCut bytes ends → list_all is_utf8 (cut bytes ends) ≡ true
-cut-utf8_of bytes ends is = parts-utf8 bytes (spans 0 ends) is.each
+pub parts_at_ends-utf8_of : (bytes ends : List ℕ) → IsCut bytes ends → list_all is_utf8 (parts_at_ends bytes ends) ≡ true
+parts_at_ends-utf8_of bytes ends is = parts-utf8 bytes (spans 0 ends) is.each
 
 -- what is known of the text at a place
 pub record TextAt (bytes ends : List ℕ) (place start end : ℕ) : Type 0 where
   pub ordered : start ≤ end
   pub within : end ≤ length bytes
-  pub value : take (end - start) (drop start bytes) ≡ text_at (cut bytes ends) place
+  pub value : take (end - start) (drop start bytes) ≡ text_at (parts_at_ends bytes ends) place
   pub utf8 : IsUtf8 (take (end - start) (drop start bytes))
 
-pub text-at : (bytes ends : List ℕ) (place start end : ℕ) → IsCut bytes ends → 1 ≤ place → place ≤ length (cut bytes ends)
+pub text-at : (bytes ends : List ℕ) (place start end : ℕ) → IsCut bytes ends → 1 ≤ place → place ≤ length (parts_at_ends bytes ends)
     → IsSpan ends (place - 1) start end → TextAt bytes ends place start end
 text-at bytes ends place start end is first last found =
     let span : Span = record { start = start; end = end } in
-    let wide : length (cut bytes ends) ≡ length (spans 0 ends) = length-map (spans 0 ends) (part bytes) in
+    let wide : length (parts_at_ends bytes ends) ≡ length (spans 0 ends) = length-map (spans 0 ends) (part bytes) in
     let here : place - 1 < length (spans 0 ends) = omega arith in
     let F : Span → Type 0 = λ s. holds_text bytes s ≡ true in
     let h : Holds bytes span = holds bytes span (subst F (found span) (holds_at bytes (spans 0 ends) (place - 1) span is.each here)) in
     record {
       ordered = h.ordered;
       within = h.within;
-      value = ap (part bytes) (sym (found span)) ∙ sym (get_or-map_at (spans 0 ends) (place - 1) span here) ∙ sym (placed-at (cut bytes ends) place first);
+      value = ap (part bytes) (sym (found span)) ∙ sym (get_or-map_at (spans 0 ends) (place - 1) span here) ∙ sym (placed-at (parts_at_ends bytes ends) place first);
       utf8 = IsUtf8-from_is_utf8 (part bytes span) h.utf8;
     }
   where
@@ -224,8 +224,8 @@ joined-spans bytes start (end ∷ ends) within all =
     ∙ ap (λ l. take (end - start) (drop start bytes) ++ l) (sym (drop-drop (end - start) start bytes))
     ∙ take-append-drop (end - start) (drop start bytes)
 
-pub joined-cut : (bytes ends : List ℕ) → IsCut bytes ends → bytes ≡ concat (cut bytes ends)
+pub joined-cut : (bytes ends : List ℕ) → IsCut bytes ends → bytes ≡ concat (parts_at_ends bytes ends)
 joined-cut bytes ends is =
     let none : drop (last_end 0 ends) bytes ≡ [] = ap (λ n. drop n bytes) is.whole ∙ drop_all (length bytes) bytes (omega arith) in
     sym (joined-spans bytes 0 ends (omega arith) is.each)
-    ∙ ap (λ l. concat (cut bytes ends) ++ l) none ∙ append-nil (concat (cut bytes ends))
+    ∙ ap (λ l. concat (parts_at_ends bytes ends) ++ l) none ∙ append-nil (concat (parts_at_ends bytes ends))

@@ -12,34 +12,34 @@ use Rattle.lei_code.specs.Texts.{Text}
 use Rattle.register_words.specs.declared.sheets.Sheet.{Sheet}
 use Rattle.copy_csv.specs.declared.faults.FormFault.{FormFault}
 use Rattle.copy_csv.specs.declared.rows.Change.{Change}
-use Rattle.copy_csv.specs.Csv.{IsCsvCopy, IsCsvDelta, change_line, csv_copy, csv_delta, delta_names, line, quoted, row_line, separator}
+use Rattle.copy_csv.specs.Csv.{IsCsvCopy, IsCsvDelta, change_line, csv_copy, csv_delta, csv_line, delta_names, in_quotes, row_line, separator}
 use Rattle.copy_csv.specs.CsvReading.{line_from, separator_of}
-use Rattle.copy_csv.specs.Rows.{IsChangeIn, IsChangeOf, IsRowIn, IsRowOf, changed_key, changed_row}
-use Rattle.copy_csv.specs.Sheets.{SheetRow, columns, fits, has_widths, key, names, names_shown, shown}
-use Rattle.copy_csv.specs.Taking.{AreRead, FindsBehind, FindsLines, HasLines}
-use Rattle.copy_csv.proofs.CsvLemmas.{line-longer, line_again, separator-of}
+use Rattle.copy_csv.specs.Rows.{IsChangeIn, IsChangeOf, IsRowIn, IsRowOfSheet, changed_key, changed_row}
+use Rattle.copy_csv.specs.Sheets.{SheetRow, column_count, column_names, fits, has_widths, key, names_shown, shown_texts}
+use Rattle.copy_csv.specs.Taking.{AreReadFrom, FindsBehind, FindsLines, HasLines}
+use Rattle.copy_csv.proofs.CsvLemmas.{csv_line-longer, line_again, separator-of}
 use Rattle.copy_csv.proofs.LineLemmas.{Read, change-one_way, change-some, length-names_shown, row-one_way, row-some, some≢none, utf8-all, utf8-change, utf8-row}
 use Rattle.copy_csv.proofs.RowLemmas.{one_list}
-use Rattle.copy_csv.proofs.WidthLemmas.{columns-one}
+use Rattle.copy_csv.proofs.WidthLemmas.{column_count-one}
 
 -- ---- heads
 
-pub lines-differ : (xs ys : List Text) (a b : List ℕ) → 0 < length xs → length xs < length ys → line xs ++ a ≢ line ys ++ b
+pub lines-differ : (xs ys : List Text) (a b : List ℕ) → 0 < length xs → length xs < length ys → csv_line xs ++ a ≢ csv_line ys ++ b
 lines-differ xs ys a b some more e =
     let read : Read = (xs, a) in
-    some≢none read (sym (line_again xs a) ∙ ap (line_from (length xs)) e ∙ line-longer (length xs) ys b some more)
+    some≢none read (sym (line_again xs a) ∙ ap (line_from (length xs)) e ∙ csv_line-longer (length xs) ys b some more)
 
 -- the names at the head of a file of each width: one for each column, and the same number of extra ones in each file
 pub record AreNames (names : Bool → Sheet → List Text) : Type 0 where
   pub extra : ℕ
-  pub long : (wide : Bool) (sheet : Sheet) → length (names wide sheet) ≡ extra + columns wide sheet
+  pub long : (wide : Bool) (sheet : Sheet) → length (names wide sheet) ≡ extra + column_count wide sheet
   pub one : (sheet : Sheet) → has_widths sheet ≡ false → names true sheet ≡ names false sheet
 
 pub copy_names : AreNames names_shown
-copy_names = record { extra = 0; long = λ wide sheet. length-names_shown wide sheet ∙ sym (zero-add (columns wide sheet)); one = same }
+copy_names = record { extra = 0; long = λ wide sheet. length-names_shown wide sheet ∙ sym (zero-add (column_count wide sheet)); one = same }
   where
     same : (sheet : Sheet) → has_widths sheet ≡ false → names_shown true sheet ≡ names_shown false sheet
-    same sheet one = ap (λ n. take n (names sheet)) (columns-one sheet true one ∙ sym (columns-one sheet false one))
+    same sheet one = ap (λ n. take n (column_names sheet)) (column_count-one sheet true one ∙ sym (column_count-one sheet false one))
 
 pub delta_names_are : AreNames delta_names
 delta_names_are = record {
@@ -50,7 +50,7 @@ delta_names_are = record {
 
 -- the heads of the two widths differ if the sheet has two
 heads-differ : (names : Bool → Sheet → List Text) → AreNames names → (sheet : Sheet) → has_widths sheet ≡ true → (a b : List ℕ)
-    → line (names false sheet) ++ a ≢ line (names true sheet) ++ b
+    → csv_line (names false sheet) ++ a ≢ csv_line (names true sheet) ++ b
 heads-differ names are Sheet.Lei two a b e =
     let narrow : length (names false Sheet.Lei) ≡ are.extra + 28 = are.long false Sheet.Lei in
     let wide : length (names true Sheet.Lei) ≡ are.extra + 32 = are.long true Sheet.Lei in
@@ -61,7 +61,7 @@ heads-differ names are Sheet.Repex two a b e = absurd (false≢true two)
 -- so a head determines the width
 pub one_width : (names : Bool → Sheet → List Text) → AreNames names → (sheet : Sheet) (wide other : Bool) (a b : List ℕ)
     → (wide ≡ true → has_widths sheet ≡ true) → (other ≡ true → has_widths sheet ≡ true)
-    → line (names wide sheet) ++ a ≡ line (names other sheet) ++ b → wide ≡ other
+    → csv_line (names wide sheet) ++ a ≡ csv_line (names other sheet) ++ b → wide ≡ other
 one_width names are sheet true true a b two too e = refl
 one_width names are sheet false false a b two too e = refl
 one_width names are sheet true false a b two too e = absurd (heads-differ names are sheet (two refl) b a (sym e))
@@ -69,7 +69,7 @@ one_width names are sheet false true a b two too e = absurd (heads-differ names 
 
 -- if no lines follow either head, none follow the head of any width
 lines-none : (names : Bool → Sheet → List Text) → AreNames names → (sheet : Sheet) (bytes narrow wide : List ℕ)
-    → narrow ≡ line (names false sheet) → wide ≡ line (names true sheet) → FindsBehind narrow wide bytes None
+    → narrow ≡ csv_line (names false sheet) → wide ≡ csv_line (names true sheet) → FindsBehind narrow wide bytes None
     → (width : Bool) (lines : List ℕ) → HasLines names sheet bytes width lines → ⊥
 lines-none names are sheet bytes narrow wide narrow_is wide_is none false lines has =
     none.0 lines has.utf8 (has.whole ∙ ap (λ l. l ++ lines) (sym narrow_is))
@@ -80,7 +80,7 @@ lines-none names are sheet bytes narrow wide narrow_is wide_is none true lines h
 
 -- what was found after one of two heads
 pub lines-found : (names : Bool → Sheet → List Text) → AreNames names → (sheet : Sheet) (bytes narrow wide : List ℕ)
-    → narrow ≡ line (names false sheet) → wide ≡ line (names true sheet) → (found : Option (Bool × List ℕ))
+    → narrow ≡ csv_line (names false sheet) → wide ≡ csv_line (names true sheet) → (found : Option (Bool × List ℕ))
     → FindsBehind narrow wide bytes found → FindsLines names sheet bytes found
 lines-found names are sheet bytes narrow wide narrow_is wide_is (Some (true, rest)) found = record {
   whole = found.0 ∙ ap (λ l. l ++ rest) wide_is;
@@ -90,7 +90,7 @@ lines-found names are sheet bytes narrow wide narrow_is wide_is (Some (true, res
   where
     by : (b : Bool) → has_widths sheet ≡ b → has_widths sheet ≡ true
     by true e = e
-    by false e = absurd (found.2 rest (found.0 ∙ ap (λ l. l ++ rest) (wide_is ∙ ap line (are.one sheet e) ∙ sym narrow_is)))
+    by false e = absurd (found.2 rest (found.0 ∙ ap (λ l. l ++ rest) (wide_is ∙ ap csv_line (are.one sheet e) ∙ sym narrow_is)))
 lines-found names are sheet bytes narrow wide narrow_is wide_is (Some (false, rest)) found = record {
   whole = found.0 ∙ ap (λ l. l ++ rest) narrow_is;
   wide_is = λ e. absurd (false≢true e);
@@ -102,27 +102,27 @@ lines-found names are sheet bytes narrow wide narrow_is wide_is None found =
 comma : (wide : Bool) (sheet : Sheet) → separator (names_shown wide sheet) ≡ 44
 comma wide sheet = separator-of (names_shown wide sheet) ∙ ap separator_of (length-names_shown wide sheet) ∙ is wide sheet
   where
-    is : (wide : Bool) (sheet : Sheet) → separator_of (columns wide sheet) ≡ 44
+    is : (wide : Bool) (sheet : Sheet) → separator_of (column_count wide sheet) ≡ 44
     is true Sheet.Lei = refl
     is false Sheet.Lei = refl
     is wide Sheet.Rr = refl
     is wide Sheet.Repex = refl
 
 pub delta-head : (wide : Bool) (sheet : Sheet) (out next after : List ℕ) → out ≡ [] → next ≡ out ++ codes "\"Delta.Action\","
-    → after ≡ next ++ line (names_shown wide sheet) → after ≡ line (delta_names wide sheet)
+    → after ≡ next ++ csv_line (names_shown wide sheet) → after ≡ csv_line (delta_names wide sheet)
 delta-head wide sheet out next after none one two =
-    two ∙ ap (λ l. l ++ line (names_shown wide sheet)) (one ∙ ap (λ l. l ++ codes "\"Delta.Action\",") none)
-    ∙ ap (λ b. quoted (codes "Delta.Action") ++ (b ∷ line (names_shown wide sheet))) (sym (comma wide sheet))
+    two ∙ ap (λ l. l ++ csv_line (names_shown wide sheet)) (one ∙ ap (λ l. l ++ codes "\"Delta.Action\",") none)
+    ∙ ap (λ b. in_quotes (codes "Delta.Action") ++ (b ∷ csv_line (names_shown wide sheet))) (sym (comma wide sheet))
 
 -- ---- whole files
 
 pub copy-is : (sheet : Sheet) (wide : Bool) (rows : List SheetRow)
-    → csv_copy sheet wide rows ≡ line (names_shown wide sheet) ++ flat_map (row_line wide) rows
+    → csv_copy sheet wide rows ≡ csv_line (names_shown wide sheet) ++ flat_map (row_line wide) rows
 unfolding csv_copy
 copy-is sheet wide rows = refl
 
 pub delta-is : (sheet : Sheet) (wide : Bool) (changes : List Change)
-    → csv_delta sheet wide changes ≡ line (delta_names wide sheet) ++ flat_map (change_line wide) changes
+    → csv_delta sheet wide changes ≡ csv_line (delta_names wide sheet) ++ flat_map (change_line wide) changes
 unfolding csv_delta
 delta-is sheet wide changes = refl
 
@@ -163,7 +163,7 @@ row_lines : (sheet : Sheet) (bytes : List ℕ) (wide : Bool) (rows : List SheetR
 row_lines sheet bytes wide rows is = record {
   whole = is.text ∙ copy-is sheet wide rows;
   wide_is = is.wide_is;
-  utf8 = utf8-all (row_line wide) (IsRowOf sheet) (utf8-row sheet wide) rows is.rows_are.each;
+  utf8 = utf8-all (row_line wide) (IsRowOfSheet sheet) (utf8-row sheet wide) rows is.rows_are.each;
 }
 
 pub copy-none : (sheet : Sheet) (bytes : List ℕ) → FindsLines names_shown sheet bytes None → (wide : Bool) (rows : List SheetRow)
@@ -172,7 +172,7 @@ copy-none sheet bytes none wide rows is = none wide (flat_map (row_line wide) ro
 
 -- if its lines aren't those of any rows, the bytes aren't a copy
 pub copy-others : (sheet : Sheet) (bytes : List ℕ) (wide : Bool) (lines : List ℕ) → HasLines names_shown sheet bytes wide lines
-    → ((rows : List SheetRow) → AreRead (row_line wide) (IsRowIn sheet wide) key lines rows → ⊥)
+    → ((rows : List SheetRow) → AreReadFrom (row_line wide) (IsRowIn sheet wide) key lines rows → ⊥)
     → (other : Bool) (rows : List SheetRow) → IsCsvCopy sheet bytes other rows → ⊥
 copy-others sheet bytes wide lines has never other rows is =
     let lines_are : HasLines names_shown sheet bytes other (flat_map (row_line other) rows) = row_lines sheet bytes other rows is in
@@ -181,18 +181,18 @@ copy-others sheet bytes wide lines has never other rows is =
     let F : Bool → Type 0 = λ w. IsCsvCopy sheet bytes w rows in
     let here : IsCsvCopy sheet bytes wide rows = subst F same is in
     never rows (record {
-      printed = behind-head (line (names_shown wide sheet)) bytes lines (flat_map (row_line wide) rows) has.whole (here.text ∙ copy-is sheet wide rows);
-      good = both-all (IsRowOf sheet) (λ row. IsTrue (fits wide row)) rows here.rows_are.each here.fit;
+      printed = behind-head (csv_line (names_shown wide sheet)) bytes lines (flat_map (row_line wide) rows) has.whole (here.text ∙ copy-is sheet wide rows);
+      good = both-all (IsRowOfSheet sheet) (λ row. IsTrue (fits wide row)) rows here.rows_are.each here.fit;
       rising = here.rows_are.rising;
     })
 
 pub copy-found : (sheet : Sheet) (bytes : List ℕ) (wide : Bool) (lines : List ℕ) → HasLines names_shown sheet bytes wide lines
-    → (rows : List SheetRow) → AreRead (row_line wide) (IsRowIn sheet wide) key lines rows → IsCsvCopy sheet bytes wide rows
+    → (rows : List SheetRow) → AreReadFrom (row_line wide) (IsRowIn sheet wide) key lines rows → IsCsvCopy sheet bytes wide rows
 copy-found sheet bytes wide lines has rows are = record {
-  text = has.whole ∙ ap (λ l. line (names_shown wide sheet) ++ l) are.printed ∙ sym (copy-is sheet wide rows);
+  text = has.whole ∙ ap (λ l. csv_line (names_shown wide sheet) ++ l) are.printed ∙ sym (copy-is sheet wide rows);
   wide_is = has.wide_is;
-  rows_are = record { each = first-all (IsRowOf sheet) (λ row. IsTrue (fits wide row)) rows are.good; rising = are.rising };
-  fit = second-all (IsRowOf sheet) (λ row. IsTrue (fits wide row)) rows are.good;
+  rows_are = record { each = first-all (IsRowOfSheet sheet) (λ row. IsTrue (fits wide row)) rows are.good; rising = are.rising };
+  fit = second-all (IsRowOfSheet sheet) (λ row. IsTrue (fits wide row)) rows are.good;
 }
 
 -- the same for a delta
@@ -209,7 +209,7 @@ pub delta-none : (sheet : Sheet) (bytes : List ℕ) → FindsLines delta_names s
 delta-none sheet bytes none wide changes is = none wide (flat_map (change_line wide) changes) (change_lines sheet bytes wide changes is)
 
 pub delta-others : (sheet : Sheet) (bytes : List ℕ) (wide : Bool) (lines : List ℕ) → HasLines delta_names sheet bytes wide lines
-    → ((changes : List Change) → AreRead (change_line wide) (IsChangeIn sheet wide) changed_key lines changes → ⊥)
+    → ((changes : List Change) → AreReadFrom (change_line wide) (IsChangeIn sheet wide) changed_key lines changes → ⊥)
     → (other : Bool) (changes : List Change) → IsCsvDelta sheet bytes other changes → ⊥
 delta-others sheet bytes wide lines has never other changes is =
     let lines_are : HasLines delta_names sheet bytes other (flat_map (change_line other) changes) = change_lines sheet bytes other changes is in
@@ -218,15 +218,15 @@ delta-others sheet bytes wide lines has never other changes is =
     let F : Bool → Type 0 = λ w. IsCsvDelta sheet bytes w changes in
     let here : IsCsvDelta sheet bytes wide changes = subst F same is in
     never changes (record {
-      printed = behind-head (line (delta_names wide sheet)) bytes lines (flat_map (change_line wide) changes) has.whole (here.text ∙ delta-is sheet wide changes);
+      printed = behind-head (csv_line (delta_names wide sheet)) bytes lines (flat_map (change_line wide) changes) has.whole (here.text ∙ delta-is sheet wide changes);
       good = both-all (IsChangeOf sheet) (λ change. IsTrue (fits wide (changed_row change))) changes here.changes_are.each here.fit;
       rising = here.changes_are.rising;
     })
 
 pub delta-found : (sheet : Sheet) (bytes : List ℕ) (wide : Bool) (lines : List ℕ) → HasLines delta_names sheet bytes wide lines
-    → (changes : List Change) → AreRead (change_line wide) (IsChangeIn sheet wide) changed_key lines changes → IsCsvDelta sheet bytes wide changes
+    → (changes : List Change) → AreReadFrom (change_line wide) (IsChangeIn sheet wide) changed_key lines changes → IsCsvDelta sheet bytes wide changes
 delta-found sheet bytes wide lines has changes are = record {
-  text = has.whole ∙ ap (λ l. line (delta_names wide sheet) ++ l) are.printed ∙ sym (delta-is sheet wide changes);
+  text = has.whole ∙ ap (λ l. csv_line (delta_names wide sheet) ++ l) are.printed ∙ sym (delta-is sheet wide changes);
   wide_is = has.wide_is;
   changes_are = record { each = first-all (IsChangeOf sheet) (λ change. IsTrue (fits wide (changed_row change))) changes are.good; rising = are.rising };
   fit = second-all (IsChangeOf sheet) (λ change. IsTrue (fits wide (changed_row change))) changes are.good;
@@ -235,10 +235,10 @@ delta-found sheet bytes wide lines has changes are = record {
 -- ---- a sheet with one width
 
 -- files with the same number of columns have the same texts of a row
-one-line : (sheet : Sheet) (wide other : Bool) → columns wide sheet ≡ columns other sheet → (row : SheetRow) → IsRowOf sheet row
-    → shown wide row ≡ shown other row
+one-line : (sheet : Sheet) (wide other : Bool) → column_count wide sheet ≡ column_count other sheet → (row : SheetRow) → IsRowOfSheet sheet row
+    → shown_texts wide row ≡ shown_texts other row
 one-line sheet wide other same row is =
-    ap (λ n. take n row.texts) (ap (columns wide) is.1 ∙ same ∙ sym (ap (columns other) is.1))
+    ap (λ n. take n row.texts) (ap (column_count wide) is.1 ∙ same ∙ sym (ap (column_count other) is.1))
 
 one-lines : {X : Type 0} (print other : X → List ℕ) (Good : X → Type 0) → ((x : X) → Good x → print x ≡ other x) → (xs : List X) → All Good xs
     → flat_map print xs ≡ flat_map other xs
@@ -246,26 +246,26 @@ one-lines print other Good each [] all = refl
 one-lines print other Good each (x ∷ xs) all = λ i. each x (All-head Good x xs all) i
     ++ one-lines print other Good each xs (All-tail Good x xs all) i
 
-pub copy-one_width : (sheet : Sheet) (wide other : Bool) → columns wide sheet ≡ columns other sheet → (rows : List SheetRow)
-    → All (IsRowOf sheet) rows → csv_copy sheet wide rows ≡ csv_copy sheet other rows
+pub copy-one_width : (sheet : Sheet) (wide other : Bool) → column_count wide sheet ≡ column_count other sheet → (rows : List SheetRow)
+    → All (IsRowOfSheet sheet) rows → csv_copy sheet wide rows ≡ csv_copy sheet other rows
 copy-one_width sheet wide other same rows all =
     copy-is sheet wide rows
-    ∙ ap (λ n. line (take n (names sheet)) ++ flat_map (row_line wide) rows) same
-    ∙ ap (λ l. line (names_shown other sheet) ++ l)
-    (one-lines (row_line wide) (row_line other) (IsRowOf sheet) (λ row is. ap line (one-line sheet wide other same row is)) rows all)
+    ∙ ap (λ n. csv_line (take n (column_names sheet)) ++ flat_map (row_line wide) rows) same
+    ∙ ap (λ l. csv_line (names_shown other sheet) ++ l)
+    (one-lines (row_line wide) (row_line other) (IsRowOfSheet sheet) (λ row is. ap csv_line (one-line sheet wide other same row is)) rows all)
     ∙ sym (copy-is sheet other rows)
 
-one-change : (sheet : Sheet) (wide other : Bool) → columns wide sheet ≡ columns other sheet → (change : Change) → IsChangeOf sheet change
+one-change : (sheet : Sheet) (wide other : Bool) → column_count wide sheet ≡ column_count other sheet → (change : Change) → IsChangeOf sheet change
     → change_line wide change ≡ change_line other change
-one-change sheet wide other same (Change.Put row) is = ap (λ l. line (codes "PUT" ∷ l)) (one-line sheet wide other same row is.0)
-one-change sheet wide other same (Change.Drop row) is = ap (λ l. line (codes "DROP" ∷ l)) (one-line sheet wide other same row is.0)
+one-change sheet wide other same (Change.Put row) is = ap (λ l. csv_line (codes "PUT" ∷ l)) (one-line sheet wide other same row is.0)
+one-change sheet wide other same (Change.Drop row) is = ap (λ l. csv_line (codes "DROP" ∷ l)) (one-line sheet wide other same row is.0)
 
-pub delta-one_width : (sheet : Sheet) (wide other : Bool) → columns wide sheet ≡ columns other sheet → (changes : List Change)
+pub delta-one_width : (sheet : Sheet) (wide other : Bool) → column_count wide sheet ≡ column_count other sheet → (changes : List Change)
     → All (IsChangeOf sheet) changes → csv_delta sheet wide changes ≡ csv_delta sheet other changes
 delta-one_width sheet wide other same changes all =
     delta-is sheet wide changes
-    ∙ ap (λ n. line (codes "Delta.Action" ∷ take n (names sheet)) ++ flat_map (change_line wide) changes) same
-    ∙ ap (λ l. line (delta_names other sheet) ++ l)
+    ∙ ap (λ n. csv_line (codes "Delta.Action" ∷ take n (column_names sheet)) ++ flat_map (change_line wide) changes) same
+    ∙ ap (λ l. csv_line (delta_names other sheet) ++ l)
     (one-lines (change_line wide) (change_line other) (IsChangeOf sheet) (one-change sheet wide other same) changes all)
     ∙ sym (delta-is sheet other changes)
 
@@ -288,9 +288,9 @@ one_copy sheet bytes wide other rows others is also =
     let here : IsCsvCopy sheet bytes wide others = subst F same also in (
       sym same,
       one_list (row_line wide) (IsRowIn sheet wide) key (row-one_way sheet wide) (row-some sheet wide) rows others
-          (both-all (IsRowOf sheet) (λ row. IsTrue (fits wide row)) rows is.rows_are.each is.fit)
-          (both-all (IsRowOf sheet) (λ row. IsTrue (fits wide row)) others here.rows_are.each here.fit)
-          (behind-head (line (names_shown wide sheet)) bytes (flat_map (row_line wide) rows) (flat_map (row_line wide) others) lines.whole
+          (both-all (IsRowOfSheet sheet) (λ row. IsTrue (fits wide row)) rows is.rows_are.each is.fit)
+          (both-all (IsRowOfSheet sheet) (λ row. IsTrue (fits wide row)) others here.rows_are.each here.fit)
+          (behind-head (csv_line (names_shown wide sheet)) bytes (flat_map (row_line wide) rows) (flat_map (row_line wide) others) lines.whole
           (here.text ∙ copy-is sheet wide others)),
     )
 
@@ -307,6 +307,6 @@ one_delta sheet bytes wide other changes others is also =
       one_list (change_line wide) (IsChangeIn sheet wide) changed_key (change-one_way sheet wide) (change-some sheet wide) changes others
           (both-all (IsChangeOf sheet) (λ change. IsTrue (fits wide (changed_row change))) changes is.changes_are.each is.fit)
           (both-all (IsChangeOf sheet) (λ change. IsTrue (fits wide (changed_row change))) others here.changes_are.each here.fit)
-          (behind-head (line (delta_names wide sheet)) bytes (flat_map (change_line wide) changes) (flat_map (change_line wide) others) lines.whole
+          (behind-head (csv_line (delta_names wide sheet)) bytes (flat_map (change_line wide) changes) (flat_map (change_line wide) others) lines.whole
           (here.text ∙ delta-is sheet wide others)),
     )

@@ -20,37 +20,37 @@ use Rattle.lei_records.specs.Rows.{text_at}
 use Rattle.lei_records.specs.Sheets.{read_texts}
 use Rattle.register_words.specs.declared.sheets.Sheet.{Sheet}
 use Rattle.copy_csv.specs.declared.rows.Change.{Change}
-use Rattle.copy_csv.specs.Csv.{after_comma, change_fields, csv_copy, csv_delta, delta_names, doubled, fields_text, line, quoted, separator}
+use Rattle.copy_csv.specs.Csv.{after_comma, change_fields, csv_copy, csv_delta, csv_fields_text, csv_line, delta_names, field_byte, in_quotes, separator}
 use Rattle.copy_csv.specs.Records.{all_quoted, records_read}
-use Rattle.copy_csv.specs.Rows.{IsRowOf}
-use Rattle.copy_csv.specs.Sheets.{SheetRow, names_shown, shown, width}
+use Rattle.copy_csv.specs.Rows.{IsRowOfSheet}
+use Rattle.copy_csv.specs.Sheets.{SheetRow, names_shown, shown_texts, width}
 use Rattle.copy_csv.proofs.FileLemmas.{copy-is, delta-is}
-use Rattle.copy_csv.proofs.LineLemmas.{comma-fields, length-names_shown, line-fields, text_at-next}
-use Rattle.copy_csv.proofs.WidthLemmas.{columns-some, shown-some}
+use Rattle.copy_csv.proofs.LineLemmas.{comma-fields, csv_line-fields, length-names_shown, text_at-next}
+use Rattle.copy_csv.proofs.WidthLemmas.{column_count-some, shown_texts-some}
 
 -- ---- writing
 
 -- with any quoting style, the quotes in a field are doubled
 escaped-doubled : (style : QuoteStyle) (flexible : Bool) (x : Text)
-    → escaped (with_flexible (with_style default_writer style) flexible) x ≡ flat_map doubled x
+    → escaped (with_flexible (with_style default_writer style) flexible) x ≡ flat_map field_byte x
 unfolding escaped
 escaped-doubled style flexible [] = refl
 escaped-doubled style flexible (b ∷ x) = elim (eqb_tells b 34) [
   | inl is ↦
       ap (λ t. cond t (34 ∷ b ∷ escaped (with_flexible (with_style default_writer style) flexible) x) (b ∷ escaped (with_flexible (with_style default_writer style) flexible) x)) is.0
       ∙ (λ i. 34 ∷ is.1 i ∷ escaped-doubled style flexible x i)
-      ∙ ap (λ t. cond t (34 ∷ 34 ∷ []) (b ∷ []) ++ flat_map doubled x) (sym is.0)
+      ∙ ap (λ t. cond t (34 ∷ 34 ∷ []) (b ∷ []) ++ flat_map field_byte x) (sym is.0)
   | inr is ↦
       ap (λ t. cond t (34 ∷ b ∷ escaped (with_flexible (with_style default_writer style) flexible) x) (b ∷ escaped (with_flexible (with_style default_writer style) flexible) x)) is.0
       ∙ ap (λ l. b ∷ l) (escaped-doubled style flexible x)
-      ∙ ap (λ t. cond t (34 ∷ 34 ∷ []) (b ∷ []) ++ flat_map doubled x) (sym is.0)
+      ∙ ap (λ t. cond t (34 ∷ 34 ∷ []) (b ∷ []) ++ flat_map field_byte x) (sym is.0)
 ]
 
-field-quoted : (x : Text) → written.quoted all_quoted x ≡ quoted x
+field-quoted : (x : Text) → written.quoted all_quoted x ≡ in_quotes x
 field-quoted x = ap (λ l. 34 ∷ (l ++ 34 ∷ [])) (escaped-doubled _ _ x)
 
 -- the fields after the first, and the end of the line
-others-written : (xs : List Text) → written.fields_text all_quoted xs ++ 10 ∷ [] ≡ separator xs ∷ line xs
+others-written : (xs : List Text) → written.fields_text all_quoted xs ++ 10 ∷ [] ≡ separator xs ∷ csv_line xs
 unfolding written.fields_text
 others-written [] = refl
 others-written (x ∷ xs) =
@@ -63,7 +63,7 @@ none-blank x [] = ne_eqb (length (written.quoted all_quoted x)) 0 (λ z. cc z)
 none-blank x (y ∷ xs) = refl
 
 -- a record as it is written is the line of its fields
-pub record-line : (fields : List Text) → 0 < length fields → row_text all_quoted fields ≡ line fields
+pub record-line : (fields : List Text) → 0 < length fields → row_text all_quoted fields ≡ csv_line fields
 record-line [] some = absurd (omega arith)
 record-line (x ∷ xs) some =
     ap (λ t. (written.quoted all_quoted x ++ written.fields_text all_quoted xs) ++ (cond t (34 ∷ 34 ∷ []) [] ++ 10 ∷ [])) (none-blank x xs)
@@ -94,70 +94,70 @@ unfolding next_record
 closed-record before x rest = refl
 
 -- a line starts with a quote
-line-opened : (x : Text) (xs : List Text) (rest : List ℕ)
-    → line (x ∷ xs) ++ rest ≡ 34 ∷ (flat_map doubled x ++ 34 ∷ separator xs ∷ (line xs ++ rest))
-line-opened x xs rest =
-    ap (λ l. 34 ∷ l) (append_assoc (flat_map doubled x ++ 34 ∷ []) (separator xs ∷ line xs) rest
-    ∙ append_assoc (flat_map doubled x) (34 ∷ []) (separator xs ∷ (line xs ++ rest)))
+csv_line-opened : (x : Text) (xs : List Text) (rest : List ℕ)
+    → csv_line (x ∷ xs) ++ rest ≡ 34 ∷ (flat_map field_byte x ++ 34 ∷ separator xs ∷ (csv_line xs ++ rest))
+csv_line-opened x xs rest =
+    ap (λ l. 34 ∷ l) (append_assoc (flat_map field_byte x ++ 34 ∷ []) (separator xs ∷ csv_line xs) rest
+    ∙ append_assoc (flat_map field_byte x) (34 ∷ []) (separator xs ∷ (csv_line xs ++ rest)))
 
 -- a field after its opening quote
 field-read : (before : List Text) (x : Text) (rest : List ℕ)
-    → next_record default_config st.InQuoted before [] (flat_map doubled x ++ 34 ∷ rest) ≡ next_record default_config st.AfterQuote before x rest
+    → next_record default_config st.InQuoted before [] (flat_map field_byte x ++ 34 ∷ rest) ≡ next_record default_config st.AfterQuote before x rest
 field-read before x rest =
     ap (λ l. next_record default_config st.InQuoted before [] (l ++ 34 ∷ rest)) (sym (escaped-doubled _ _ x)) ∙ quoted-run before [] x rest
 
 -- the fields of a line after its opening quote
 fields-read : (before : List Text) (x : Text) (xs : List Text) (rest : List ℕ)
-    → next_record default_config st.InQuoted before [] (flat_map doubled x ++ 34 ∷ separator xs ∷ (line xs ++ rest))
+    → next_record default_config st.InQuoted before [] (flat_map field_byte x ++ 34 ∷ separator xs ∷ (csv_line xs ++ rest))
     ≡ Some (before ++ x ∷ xs, st.StartRecord, rest)
 fields-read before x [] rest = field-read before x (10 ∷ rest) ∙ closed-record before x rest
 fields-read before x (y ∷ ys) rest =
-    field-read before x (44 ∷ (line (y ∷ ys) ++ rest))
-    ∙ closed-field before x (line (y ∷ ys) ++ rest)
-    ∙ ap (next_record default_config st.StartField (before ++ x ∷ []) []) (line-opened y ys rest)
-    ∙ opened-field (before ++ x ∷ []) (flat_map doubled y ++ 34 ∷ separator ys ∷ (line ys ++ rest))
+    field-read before x (44 ∷ (csv_line (y ∷ ys) ++ rest))
+    ∙ closed-field before x (csv_line (y ∷ ys) ++ rest)
+    ∙ ap (next_record default_config st.StartField (before ++ x ∷ []) []) (csv_line-opened y ys rest)
+    ∙ opened-field (before ++ x ∷ []) (flat_map field_byte y ++ 34 ∷ separator ys ∷ (csv_line ys ++ rest))
     ∙ fields-read (before ++ x ∷ []) y ys rest
     ∙ ap (λ l. Some (l, st.StartRecord, rest)) (append_assoc before (x ∷ []) (y ∷ ys))
 
-line-read : (x : Text) (xs : List Text) (rest : List ℕ)
-    → next_record default_config st.StartRecord [] [] (line (x ∷ xs) ++ rest) ≡ Some (x ∷ xs, st.StartRecord, rest)
-line-read x xs rest =
-    ap (next_record default_config st.StartRecord [] []) (line-opened x xs rest)
-    ∙ opened-record (flat_map doubled x ++ 34 ∷ separator xs ∷ (line xs ++ rest)) ∙ fields-read [] x xs rest
+csv_line-read : (x : Text) (xs : List Text) (rest : List ℕ)
+    → next_record default_config st.StartRecord [] [] (csv_line (x ∷ xs) ++ rest) ≡ Some (x ∷ xs, st.StartRecord, rest)
+csv_line-read x xs rest =
+    ap (next_record default_config st.StartRecord [] []) (csv_line-opened x xs rest)
+    ∙ opened-record (flat_map field_byte x ++ 34 ∷ separator xs ∷ (csv_line xs ++ rest)) ∙ fields-read [] x xs rest
 
 -- ---- lines
 
 -- the first line of a text is its first record
 first-read : (fields : List Text) (rest : List ℕ) (n : ℕ) → 0 < length fields
-    → records_from default_config (suc n) st.StartRecord (line fields ++ rest) ≡ fields ∷ records_from default_config n st.StartRecord rest
+    → records_from default_config (suc n) st.StartRecord (csv_line fields ++ rest) ≡ fields ∷ records_from default_config n st.StartRecord rest
 unfolding records_from
 first-read [] rest n some = absurd (omega arith)
-first-read (x ∷ xs) rest n some = ap (records_next (records_from default_config n)) (line-read x xs rest)
+first-read (x ∷ xs) rest n some = ap (records_next (records_from default_config n)) (csv_line-read x xs rest)
 
 -- each line of a text is a record
 lines-read : {X : Type 0} (fields_of : X → List Text) (Good : X → Type 0) → ((x : X) → Good x → 0 < length (fields_of x))
     → (xs : List X) → All Good xs → (n : ℕ) → length xs < n
-    → records_from default_config n st.StartRecord (flat_map (λ x. line (fields_of x)) xs) ≡ map fields_of xs
+    → records_from default_config n st.StartRecord (flat_map (λ x. csv_line (fields_of x)) xs) ≡ map fields_of xs
 unfolding records_from next_record
 lines-read fields_of Good each xs all zero more = absurd (omega arith)
 lines-read fields_of Good each [] all (suc n) more = refl
 lines-read fields_of Good each (x ∷ xs) all (suc n) more =
     let others : length xs < n = omega arith in
-    first-read (fields_of x) (flat_map (λ x. line (fields_of x)) xs) n (each x (All-head Good x xs all))
+    first-read (fields_of x) (flat_map (λ x. csv_line (fields_of x)) xs) n (each x (All-head Good x xs all))
     ∙ ap (λ l. fields_of x ∷ l) (lines-read fields_of Good each xs (All-tail Good x xs all) n others)
 
-line-long : (fields : List Text) → 0 < length fields → 0 < length (line fields)
-line-long [] some = absurd (omega arith)
-line-long (x ∷ xs) some = let long : suc (length (drop 1 (line (x ∷ xs)))) ≡ length (line (x ∷ xs)) = refl in omega arith
+csv_line-long : (fields : List Text) → 0 < length fields → 0 < length (csv_line fields)
+csv_line-long [] some = absurd (omega arith)
+csv_line-long (x ∷ xs) some = let long : suc (length (drop 1 (csv_line (x ∷ xs)))) ≡ length (csv_line (x ∷ xs)) = refl in omega arith
 
 -- a text has at least as many bytes as lines
 rows-long : {X : Type 0} (fields_of : X → List Text) (Good : X → Type 0) → ((x : X) → Good x → 0 < length (fields_of x))
-    → (xs : List X) → All Good xs → length xs < suc (length (flat_map (λ x. line (fields_of x)) xs))
+    → (xs : List X) → All Good xs → length xs < suc (length (flat_map (λ x. csv_line (fields_of x)) xs))
 rows-long fields_of Good each [] all = omega arith
 rows-long fields_of Good each (x ∷ xs) all =
-    let one = line-long (fields_of x) (each x (All-head Good x xs all)) in
+    let one = csv_line-long (fields_of x) (each x (All-head Good x xs all)) in
     let others = rows-long fields_of Good each xs (All-tail Good x xs all) in
-    let both = length-append (line (fields_of x)) (flat_map (λ x. line (fields_of x)) xs) in
+    let both = length-append (csv_line (fields_of x)) (flat_map (λ x. csv_line (fields_of x)) xs) in
     omega arith
 
 -- a text that starts with a quote doesn't start with a byte order mark
@@ -167,39 +167,39 @@ unmarked [] = refl
 unmarked (a ∷ []) = refl
 unmarked (a ∷ b ∷ rest) = refl
 
-line-unmarked : (fields : List Text) (rest : List ℕ) → 0 < length fields → strip_bom (line fields ++ rest) ≡ line fields ++ rest
-line-unmarked [] rest some = absurd (omega arith)
-line-unmarked (x ∷ xs) rest some =
-    ap strip_bom (line-opened x xs rest) ∙ unmarked (flat_map doubled x ++ 34 ∷ separator xs ∷ (line xs ++ rest)) ∙ sym (line-opened x xs rest)
+csv_line-unmarked : (fields : List Text) (rest : List ℕ) → 0 < length fields → strip_bom (csv_line fields ++ rest) ≡ csv_line fields ++ rest
+csv_line-unmarked [] rest some = absurd (omega arith)
+csv_line-unmarked (x ∷ xs) rest some =
+    ap strip_bom (csv_line-opened x xs rest) ∙ unmarked (flat_map field_byte x ++ 34 ∷ separator xs ∷ (csv_line xs ++ rest)) ∙ sym (csv_line-opened x xs rest)
 
 -- the records of a file: its names, and then the fields of each line after them
 file-read : {X : Type 0} (fields_of : X → List Text) (Good : X → Type 0) → ((x : X) → Good x → 0 < length (fields_of x))
     → (names : List Text) → 0 < length names → (xs : List X) → All Good xs
-    → records_read (line names ++ flat_map (λ x. line (fields_of x)) xs) ≡ names ∷ map fields_of xs
+    → records_read (csv_line names ++ flat_map (λ x. csv_line (fields_of x)) xs) ≡ names ∷ map fields_of xs
 file-read fields_of Good each names some xs all =
-    let lines : List ℕ = flat_map (λ x. line (fields_of x)) xs in
-    let n : ℕ = length (line names ++ lines) in
-    let one = line-long names some in
+    let lines : List ℕ = flat_map (λ x. csv_line (fields_of x)) xs in
+    let n : ℕ = length (csv_line names ++ lines) in
+    let one = csv_line-long names some in
     let others = rows-long fields_of Good each xs all in
-    let both = length-append (line names) lines in
+    let both = length-append (csv_line names) lines in
     let fuel : length xs < n = omega arith in
     let next : n + 1 ≡ suc n = omega arith in
-    (λ i. records_from default_config (length (line-unmarked names lines some i) + 1) st.StartRecord (line-unmarked names lines some i))
-    ∙ ap (λ m. records_from default_config m st.StartRecord (line names ++ lines)) next
+    (λ i. records_from default_config (length (csv_line-unmarked names lines some i) + 1) st.StartRecord (csv_line-unmarked names lines some i))
+    ∙ ap (λ m. records_from default_config m st.StartRecord (csv_line names ++ lines)) next
     ∙ first-read names lines n some
     ∙ ap (λ l. names ∷ l) (lines-read fields_of Good each xs all n fuel)
 
-pub line-records : (fields : List Text) → 0 < length fields → records_read (line fields) ≡ fields ∷ []
-line-records fields some = ap records_read (sym (append-nil (line fields))) ∙ file-read (λ l. l) (λ l. 0 < length l) (λ l is. is) fields some [] (All-nil _)
+pub csv_line-records : (fields : List Text) → 0 < length fields → records_read (csv_line fields) ≡ fields ∷ []
+csv_line-records fields some = ap records_read (sym (append-nil (csv_line fields))) ∙ file-read (λ l. l) (λ l. 0 < length l) (λ l is. is) fields some [] (All-nil _)
 
 names-some : (wide : Bool) (sheet : Sheet) → 0 < length (names_shown wide sheet)
-names-some wide sheet = let long = length-names_shown wide sheet in let some = columns-some wide sheet in omega arith
+names-some wide sheet = let long = length-names_shown wide sheet in let some = column_count-some wide sheet in omega arith
 
-pub copy-records : (sheet : Sheet) (wide : Bool) (rows : List SheetRow) → All (IsRowOf sheet) rows
-    → records_read (csv_copy sheet wide rows) ≡ names_shown wide sheet ∷ map (shown wide) rows
+pub copy-records : (sheet : Sheet) (wide : Bool) (rows : List SheetRow) → All (IsRowOfSheet sheet) rows
+    → records_read (csv_copy sheet wide rows) ≡ names_shown wide sheet ∷ map (shown_texts wide) rows
 copy-records sheet wide rows are =
     ap records_read (copy-is sheet wide rows)
-    ∙ file-read (shown wide) (IsRowOf sheet) (shown-some sheet wide) (names_shown wide sheet) (names-some wide sheet) rows are
+    ∙ file-read (shown_texts wide) (IsRowOfSheet sheet) (shown_texts-some sheet wide) (names_shown wide sheet) (names-some wide sheet) rows are
 
 change-some : (wide : Bool) (change : Change) → 0 < length (change_fields wide change)
 change-some wide (Change.Put row) = omega arith
@@ -272,9 +272,9 @@ lent-rest lent texts n full all some is =
 -- ---- appending
 
 -- a writer appends a line
-pub line-put : (cfg : WriterBuilder) (out inner pending after : List ℕ) (fields : List Text) → 0 < length fields → cfg ≡ all_quoted
-    → inner ≡ out → pending ≡ [] → after ≡ (inner ++ pending) ++ row_text cfg fields → after ≡ out ++ line fields
-line-put cfg out inner pending after fields some cfg_is inner_is none put =
+pub csv_line-put : (cfg : WriterBuilder) (out inner pending after : List ℕ) (fields : List Text) → 0 < length fields → cfg ≡ all_quoted
+    → inner ≡ out → pending ≡ [] → after ≡ (inner ++ pending) ++ row_text cfg fields → after ≡ out ++ csv_line fields
+csv_line-put cfg out inner pending after fields some cfg_is inner_is none put =
     put ∙ (λ i. (inner_is i ++ none i) ++ row_text (cfg_is i) fields) ∙ (λ i. append-nil out i ++ record-line fields some i)
 
 -- what is under a writer's buffer after nothing is pending
@@ -282,59 +282,59 @@ pub flushed : (under pending before all : List ℕ) → under ++ pending ≡ bef
 flushed under pending before all same none is =
     sym (append-nil under) ∙ ap (λ l. under ++ l) (sym none) ∙ same ∙ is
 
-pub line-nonempty : (bytes : List ℕ) (fields : List Text) (n : ℕ) → 0 < length fields → n ≡ length bytes → bytes ≡ line fields → 1 ≤ n
-line-nonempty bytes fields n some long is = let one = line-long fields some in let same = ap length is in omega arith
+pub csv_line-nonempty : (bytes : List ℕ) (fields : List Text) (n : ℕ) → 0 < length fields → n ≡ length bytes → bytes ≡ csv_line fields → 1 ≤ n
+csv_line-nonempty bytes fields n some long is = let one = csv_line-long fields some in let same = ap length is in omega arith
 
 -- without its last byte, a line is its fields
-pub line-open : (line_bytes : List ℕ) (fields : List Text) (n : ℕ) → 0 < length fields → n ≡ length line_bytes → line_bytes ≡ line fields
-    → take (n - 1) line_bytes ≡ fields_text fields
-line-open bytes fields n some long is =
-    let ends : bytes ≡ fields_text fields ++ 10 ∷ [] = is ∙ sym (line-fields fields some) in
-    let both : length bytes ≡ length (fields_text fields) + 1 = ap length ends ∙ length-append (fields_text fields) (10 ∷ []) in
-    let last : length (fields_text fields) ≡ n - 1 = omega arith in
-    ap (take (n - 1)) ends ∙ take_at (fields_text fields) (10 ∷ []) (n - 1) last
+pub csv_line-open : (line_bytes : List ℕ) (fields : List Text) (n : ℕ) → 0 < length fields → n ≡ length line_bytes → line_bytes ≡ csv_line fields
+    → take (n - 1) line_bytes ≡ csv_fields_text fields
+csv_line-open bytes fields n some long is =
+    let ends : bytes ≡ csv_fields_text fields ++ 10 ∷ [] = is ∙ sym (csv_line-fields fields some) in
+    let both : length bytes ≡ length (csv_fields_text fields) + 1 = ap length ends ∙ length-append (csv_fields_text fields) (10 ∷ []) in
+    let last : length (csv_fields_text fields) ≡ n - 1 = omega arith in
+    ap (take (n - 1)) ends ∙ take_at (csv_fields_text fields) (10 ∷ []) (n - 1) last
 
 -- so is the first of two lines, up to the byte before the start of the second, and so is the second, after that
-pub lines-front : (bytes : List ℕ) (fields others : List Text) (n : ℕ) → 0 < length fields → bytes ≡ line fields ++ line others
-    → n ≡ length (line fields) → take (n - 1) bytes ≡ fields_text fields
+pub lines-front : (bytes : List ℕ) (fields others : List Text) (n : ℕ) → 0 < length fields → bytes ≡ csv_line fields ++ csv_line others
+    → n ≡ length (csv_line fields) → take (n - 1) bytes ≡ csv_fields_text fields
 lines-front bytes fields others n some is long =
-    let ends : bytes ≡ fields_text fields ++ (10 ∷ line others) =
-    is ∙ ap (λ l. l ++ line others) (sym (line-fields fields some)) ∙ append_assoc (fields_text fields) (10 ∷ []) (line others) in
-    let both : length (line fields) ≡ length (fields_text fields) + 1 =
-    ap length (sym (line-fields fields some)) ∙ length-append (fields_text fields) (10 ∷ []) in
-    let last : length (fields_text fields) ≡ n - 1 = omega arith in
-    ap (take (n - 1)) ends ∙ take_at (fields_text fields) (10 ∷ line others) (n - 1) last
+    let ends : bytes ≡ csv_fields_text fields ++ (10 ∷ csv_line others) =
+    is ∙ ap (λ l. l ++ csv_line others) (sym (csv_line-fields fields some)) ∙ append_assoc (csv_fields_text fields) (10 ∷ []) (csv_line others) in
+    let both : length (csv_line fields) ≡ length (csv_fields_text fields) + 1 =
+    ap length (sym (csv_line-fields fields some)) ∙ length-append (csv_fields_text fields) (10 ∷ []) in
+    let last : length (csv_fields_text fields) ≡ n - 1 = omega arith in
+    ap (take (n - 1)) ends ∙ take_at (csv_fields_text fields) (10 ∷ csv_line others) (n - 1) last
 
-pub lines-back : (bytes : List ℕ) (fields others : List Text) (n end : ℕ) → 0 < length others → bytes ≡ line fields ++ line others
-    → n ≡ length (line fields) → end ≡ length bytes → take (end - 1 - n) (drop n bytes) ≡ fields_text others
+pub lines-back : (bytes : List ℕ) (fields others : List Text) (n end : ℕ) → 0 < length others → bytes ≡ csv_line fields ++ csv_line others
+    → n ≡ length (csv_line fields) → end ≡ length bytes → take (end - 1 - n) (drop n bytes) ≡ csv_fields_text others
 lines-back bytes fields others n end some is long whole =
-    let both : length bytes ≡ length (line fields) + length (line others) = ap length is ∙ length-append (line fields) (line others) in
-    let left : end - 1 - n ≡ length (line others) - 1 = omega arith in
-    ap (take (end - 1 - n)) (ap (drop n) is ∙ drop_at (line fields) (line others) n (sym long))
-    ∙ ap (λ m. take m (line others)) left ∙ line-open (line others) others (length (line others)) some refl refl
+    let both : length bytes ≡ length (csv_line fields) + length (csv_line others) = ap length is ∙ length-append (csv_line fields) (csv_line others) in
+    let left : end - 1 - n ≡ length (csv_line others) - 1 = omega arith in
+    ap (take (end - 1 - n)) (ap (drop n) is ∙ drop_at (csv_line fields) (csv_line others) n (sym long))
+    ∙ ap (λ m. take m (csv_line others)) left ∙ csv_line-open (csv_line others) others (length (csv_line others)) some refl refl
 
 -- two lines, and the offset at which the second starts
 pub record TwoLines (bytes : List ℕ) (fields others : List Text) (n : ℕ) : Type 0 where
-  pub lines : bytes ≡ line fields ++ line others
-  pub begins : n ≡ length (line fields)
+  pub lines : bytes ≡ csv_line fields ++ csv_line others
+  pub begins : n ≡ length (csv_line fields)
   pub first : 1 ≤ n
   pub within : n < length bytes
 
 pub two-lines : (out bytes : List ℕ) (fields others : List Text) (n : ℕ) → 0 < length fields → 0 < length others → out ≡ []
-    → bytes ≡ (out ++ line fields) ++ line others → n ≡ length (out ++ line fields) → TwoLines bytes fields others n
+    → bytes ≡ (out ++ csv_line fields) ++ csv_line others → n ≡ length (out ++ csv_line fields) → TwoLines bytes fields others n
 two-lines out bytes fields others n some more none put long =
-    let is : bytes ≡ line fields ++ line others = put ∙ ap (λ l. (l ++ line fields) ++ line others) none in
-    let begins : n ≡ length (line fields) = long ∙ ap (λ l. length (l ++ line fields)) none in
-    let both : length bytes ≡ length (line fields) + length (line others) = ap length is ∙ length-append (line fields) (line others) in
-    let one = line-long fields some in
-    let two = line-long others more in
+    let is : bytes ≡ csv_line fields ++ csv_line others = put ∙ ap (λ l. (l ++ csv_line fields) ++ csv_line others) none in
+    let begins : n ≡ length (csv_line fields) = long ∙ ap (λ l. length (l ++ csv_line fields)) none in
+    let both : length bytes ≡ length (csv_line fields) + length (csv_line others) = ap length is ∙ length-append (csv_line fields) (csv_line others) in
+    let one = csv_line-long fields some in
+    let two = csv_line-long others more in
     record { lines = is; begins = begins; first = omega arith; within = omega arith }
 
 -- a comma, and the further fields
 pub further-put : (out next after : List ℕ) (fields : List Text) → 0 < length fields → out ≡ [] → next ≡ out ++ 44 ∷ []
-    → after ≡ next ++ fields_text fields → after ≡ flat_map after_comma fields
+    → after ≡ next ++ csv_fields_text fields → after ≡ flat_map after_comma fields
 further-put out next after fields some none comma put =
-    put ∙ ap (λ l. l ++ fields_text fields) (comma ∙ ap (λ l. l ++ 44 ∷ []) none) ∙ comma-fields fields some
+    put ∙ ap (λ l. l ++ csv_fields_text fields) (comma ∙ ap (λ l. l ++ 44 ∷ []) none) ∙ comma-fields fields some
 
 -- a row of any sheet has at most 32 texts
 pub width-most : (sheet : Sheet) → width sheet ≤ 32

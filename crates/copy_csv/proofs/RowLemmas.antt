@@ -13,8 +13,8 @@ use Rattle.std.proofs.lemmas.List.Elements.{All-head, All-tail}
 use Rattle.std.proofs.lemmas.Grind.{flat_map-append}
 use Rattle.std.proofs.lemmas.Map.Keys.{Less-from_sorted, sorted_from_all_adjacent}
 use Rattle.lei_records.specs.Tables.{KeyTexts, key_cmp}
-use Rattle.copy_csv.specs.Rows.{AreRising}
-use Rattle.copy_csv.specs.Taking.{AreRead, Reads, comes_after, is_behind}
+use Rattle.copy_csv.specs.Rows.{KeysRise}
+use Rattle.copy_csv.specs.Taking.{AreReadFrom, ReadsNext, comes_after, is_after_all}
 
 pub key_total : IsTotalOrder key_cmp
 key_total = lists_total nat_list_cmp_total
@@ -35,15 +35,15 @@ got (x ∷ xs) (suc k) d within = got xs k d (omega arith)
 
 -- whether an item comes after the last one of a list
 behind_is : {X : Type 0} (key : X → KeyTexts) (y : X) (made : List X) (x : X)
-    → is_behind key (y ∷ made) x ≡ is_lt (key_cmp (key (get_or (y ∷ made) (length made) x)) (key x))
+    → is_after_all key (y ∷ made) x ≡ is_lt (key_cmp (key (get_or (y ∷ made) (length made) x)) (key x))
 behind_is key y made x =
     let last : length (y ∷ made) - 1 ≡ length made = omega arith in
     ap (λ n. comes_after key (slice_get (y ∷ made) n) x) last
     ∙ ap (λ o. comes_after key o x) (got (y ∷ made) (length made) x (omega arith))
 
 -- in a list whose keys rise, each item comes after the one before it
-pub behind_last : {X : Type 0} (key : X → KeyTexts) (made : List X) (x : X) (more : List X) → AreRising (map key (made ++ x ∷ more))
-    → is_behind key made x ≡ true
+pub behind_last : {X : Type 0} (key : X → KeyTexts) (made : List X) (x : X) (more : List X) → KeysRise (map key (made ++ x ∷ more))
+    → is_after_all key made x ≡ true
 behind_last key [] x more rising = refl
 behind_last key (y ∷ made) x more rising =
     let xs = (y ∷ made) ++ x ∷ more in
@@ -70,7 +70,7 @@ key_end key made x =
     let long : length (made ++ x ∷ []) ≡ length made + 1 = length_push made x in
     get_or-map key (made ++ x ∷ []) (length made) x [] (omega arith) ∙ ap key (get_or_at made x [] x (length made) refl)
 
-adjacent : {X : Type 0} (key : X → KeyTexts) (y : X) (made : List X) (x : X) → AreRising (map key (y ∷ made)) → is_behind key (y ∷ made) x ≡ true
+adjacent : {X : Type 0} (key : X → KeyTexts) (y : X) (made : List X) (x : X) → KeysRise (map key (y ∷ made)) → is_after_all key (y ∷ made) x ≡ true
     → (k : ℕ) → k < length (y ∷ made)
     → key_cmp (get_or (map key ((y ∷ made) ++ x ∷ [])) k []) (get_or (map key ((y ∷ made) ++ x ∷ [])) (k + 1) []) ≡ Ordering.Less
 adjacent key y made x rising behind k within = elim (cases_lt k (length made)) [
@@ -90,13 +90,13 @@ adjacent key y made x rising behind k within = elim (cases_lt k (length made)) [
       (λ i. key_cmp (first i) (second i)) ∙ less (key_cmp (key (get_or (y ∷ made) (length made) x)) (key x)) (sym (behind_is key y made x) ∙ behind)
 ]
 
-pub rising-nil : AreRising []
+pub rising-nil : KeysRise []
 unfolding IsStrictlySortedBy
 rising-nil = tt
 
 -- an item is appended after the last one
-pub rising-push : {X : Type 0} (key : X → KeyTexts) (made : List X) (x : X) → AreRising (map key made) → is_behind key made x ≡ true
-    → AreRising (map key (made ++ x ∷ []))
+pub rising-push : {X : Type 0} (key : X → KeyTexts) (made : List X) (x : X) → KeysRise (map key made) → is_after_all key made x ≡ true
+    → KeysRise (map key (made ++ x ∷ []))
 rising-push key [] x rising behind = sorted_from_all_adjacent key_total (key x ∷ []) [] (λ k within. absurd (omega arith))
 rising-push key (y ∷ made) x rising behind =
     let long : length (map key ((y ∷ made) ++ x ∷ [])) ≡ length (y ∷ made) + 1 =
@@ -149,7 +149,7 @@ module _ {X : Type 0} (print : X → List ℕ) (Good : X → Type 0) (key : X �
 
   -- if no good item comes next, the bytes are no printed list
   pub none_next : (all : List ℕ) (made : List X) (old new : List ℕ) → All Good made → all ≡ flat_map print made ++ old → 0 < length old
-      → Reads print Good old None new → (xs : List X) → AreRead print Good key all xs → ⊥
+      → ReadsNext print Good old None new → (xs : List X) → AreReadFrom print Good key all xs → ⊥
   none_next all made old new good e some_left none xs are =
       let on : GoesOn made xs old = goes_on made xs old good are.good (sym e ∙ are.printed) in
       next on.more (good_more made xs on.more are.good on.is) on.rest_is
@@ -160,7 +160,7 @@ module _ {X : Type 0} (print : X → List ℕ) (Good : X → Type 0) (key : X �
 
   -- if the next item doesn't come after the last one, the bytes are no printed list with rising keys
   pub not_behind : (all : List ℕ) (made : List X) (x : X) (old new : List ℕ) → All Good made → all ≡ flat_map print made ++ old
-      → Reads print Good old (Some x) new → is_behind key made x ≡ false → (xs : List X) → AreRead print Good key all xs → ⊥
+      → ReadsNext print Good old (Some x) new → is_after_all key made x ≡ false → (xs : List X) → AreReadFrom print Good key all xs → ⊥
   not_behind all made x old new good e read behind xs are =
       let on : GoesOn made xs old = goes_on made xs old good are.good (sym e ∙ are.printed) in
       next on.more (good_more made xs on.more are.good on.is) on.rest_is on.is
@@ -169,14 +169,14 @@ module _ {X : Type 0} (print : X → List ℕ) (Good : X → Type 0) (key : X �
       next [] goods is all_is = some x new read.1 (sym read.0 ∙ is)
       next (y ∷ more) goods is all_is =
           let same = one_way x y new (flat_map print more) read.1 (All-head Good y more goods) (sym read.0 ∙ is) in
-          let rising : AreRising (map key (made ++ y ∷ more)) =
-          let F : List X → Type 0 = λ l. AreRising (map key l) in subst F all_is are.rising in
-          let F : X → Type 0 = λ z. is_behind key made z ≡ false in
-          let wrong : is_behind key made y ≡ false = subst F same.0 behind in
+          let rising : KeysRise (map key (made ++ y ∷ more)) =
+          let F : List X → Type 0 = λ l. KeysRise (map key l) in subst F all_is are.rising in
+          let F : X → Type 0 = λ z. is_after_all key made z ≡ false in
+          let wrong : is_after_all key made y ≡ false = subst F same.0 behind in
           false≢true (sym wrong ∙ behind_last key made y more rising)
 
   -- the printed form of an item isn't empty
-  pub shorter : (x : X) (old new : List ℕ) → Reads print Good old (Some x) new → length new < length old
+  pub shorter : (x : X) (old new : List ℕ) → ReadsNext print Good old (Some x) new → length new < length old
   shorter x old new read =
       let long : length old ≡ length (print x) + length new = ap length read.0 ∙ length-append (print x) new in
       let more : 0 < length (print x) = positive (print x) (λ e. some x [] read.1 (append-nil (print x) ∙ e)) in

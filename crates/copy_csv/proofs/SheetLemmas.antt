@@ -10,7 +10,7 @@ use Rattle.lei_records.specs.declared.fields.Need.{Need}
 use Rattle.lei_records.specs.Fields.{Field, exception_fields, fields, fields_of, names_of, relation_fields, row_len}
 use Rattle.lei_records.specs.Rows.{text_at}
 use Rattle.register_words.specs.declared.sheets.Sheet.{Sheet}
-use Rattle.copy_csv.specs.Sheets.{kind_of, names, width}
+use Rattle.copy_csv.specs.Sheets.{column_names, kind_of, width}
 
 pub text-at : (texts : List Text) (place : ℕ) → 1 ≤ place → text_at texts place ≡ get_or texts (place - 1) (codes "")
 text-at texts place first =
@@ -39,7 +39,7 @@ name-bound sheet table place is first last =
     omega arith
 
 pub name-at : (sheet : Sheet) (table : List Lent) (place : ℕ) (none : Lent) → none.0.now ≡ codes "" → map (λ field. field.0.now) table ≡ names_of (kind_of sheet) → 1 ≤ place → place ≤ width sheet
-    → (get_or table (place - 1) none).0.now ≡ text_at (names sheet) place
+    → (get_or table (place - 1) none).0.now ≡ text_at (column_names sheet) place
 name-at sheet table place none empty is first last =
     let kind = kind_of sheet in
     let nothing : Field = (codes "", Content.Action, Need.Optional) in
@@ -49,4 +49,4 @@ name-at sheet table place none empty is first last =
     ∙ get_or-map (λ (field : Field). field.0) (fields_of kind) (place - 1) nothing
     ∙ ap (λ (field : Field). field.0) (sym (get_or-take (row_len kind) (fields_of kind) (place - 1) nothing below))
     ∙ sym (get_or-map (λ (field : Field). field.0) (take (row_len kind) (fields_of kind)) (place - 1) nothing)
-    ∙ sym (text-at (names sheet) place first)
+    ∙ sym (text-at (column_names sheet) place first)

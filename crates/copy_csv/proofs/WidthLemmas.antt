@@ -9,51 +9,51 @@ use Rattle.std.proofs.lemmas.List.{append-nil, drop_all, drop_at, drop-drop, len
 use Rattle.lei_code.specs.Texts.{Text}
 use Rattle.lei_records.specs.Spelled.{is_absent}
 use Rattle.register_words.specs.declared.sheets.Sheet.{Sheet}
-use Rattle.copy_csv.specs.Rows.{IsRowIn, IsRowOf}
-use Rattle.copy_csv.specs.Sheets.{SheetRow, columns, fits, has_widths, is_key_alone, key_len, left_out, row_of, shown, width}
+use Rattle.copy_csv.specs.Rows.{IsRowIn, IsRowOfSheet}
+use Rattle.copy_csv.specs.Sheets.{SheetRow, column_count, fits, has_widths, is_key_alone, key_len, left_out, row_of_texts, shown_texts, width}
 
-pub columns-some : (wide : Bool) (sheet : Sheet) → 0 < columns wide sheet
-columns-some true Sheet.Lei = omega arith
-columns-some false Sheet.Lei = omega arith
-columns-some wide Sheet.Rr = omega arith
-columns-some wide Sheet.Repex = omega arith
+pub column_count-some : (wide : Bool) (sheet : Sheet) → 0 < column_count wide sheet
+column_count-some true Sheet.Lei = omega arith
+column_count-some false Sheet.Lei = omega arith
+column_count-some wide Sheet.Rr = omega arith
+column_count-some wide Sheet.Repex = omega arith
 
-pub columns-within : (wide : Bool) (sheet : Sheet) → columns wide sheet ≤ width sheet
-columns-within true Sheet.Lei = omega arith
-columns-within false Sheet.Lei = omega arith
-columns-within wide Sheet.Rr = omega arith
-columns-within wide Sheet.Repex = omega arith
+pub column_count-within : (wide : Bool) (sheet : Sheet) → column_count wide sheet ≤ width sheet
+column_count-within true Sheet.Lei = omega arith
+column_count-within false Sheet.Lei = omega arith
+column_count-within wide Sheet.Rr = omega arith
+column_count-within wide Sheet.Repex = omega arith
 
-pub columns-all : (sheet : Sheet) → columns true sheet ≡ width sheet
-columns-all Sheet.Lei = refl
-columns-all Sheet.Rr = refl
-columns-all Sheet.Repex = refl
+pub column_count-all : (sheet : Sheet) → column_count true sheet ≡ width sheet
+column_count-all Sheet.Lei = refl
+column_count-all Sheet.Rr = refl
+column_count-all Sheet.Repex = refl
 
 -- a sheet with one width has that width in files that are called wide, too
-pub columns-one : (sheet : Sheet) (wide : Bool) → has_widths sheet ≡ false → columns wide sheet ≡ width sheet
-columns-one Sheet.Lei wide one = absurd (false≢true (sym one))
-columns-one Sheet.Rr wide one = refl
-columns-one Sheet.Repex wide one = refl
+pub column_count-one : (sheet : Sheet) (wide : Bool) → has_widths sheet ≡ false → column_count wide sheet ≡ width sheet
+column_count-one Sheet.Lei wide one = absurd (false≢true (sym one))
+column_count-one Sheet.Rr wide one = refl
+column_count-one Sheet.Repex wide one = refl
 
-key-within : (wide : Bool) (sheet : Sheet) → key_len sheet ≤ columns wide sheet
+key-within : (wide : Bool) (sheet : Sheet) → key_len sheet ≤ column_count wide sheet
 key-within true Sheet.Lei = omega arith
 key-within false Sheet.Lei = omega arith
 key-within wide Sheet.Rr = omega arith
 key-within wide Sheet.Repex = omega arith
 
-pub row_width : (sheet : Sheet) (row : SheetRow) → IsRowOf sheet row → length row.texts ≡ width sheet
+pub row_width : (sheet : Sheet) (row : SheetRow) → IsRowOfSheet sheet row → length row.texts ≡ width sheet
 row_width sheet row is = is.0.full ∙ ap width is.1
 
 -- a row of the sheet has a text for each column
-pub length-shown : (sheet : Sheet) (wide : Bool) (row : SheetRow) → IsRowOf sheet row → length (shown wide row) ≡ columns wide sheet
+pub length-shown : (sheet : Sheet) (wide : Bool) (row : SheetRow) → IsRowOfSheet sheet row → length (shown_texts wide row) ≡ column_count wide sheet
 length-shown sheet wide row is =
     let all = row_width sheet row is in
-    let within = columns-within wide sheet in
-    let same : columns wide row.sheet ≡ columns wide sheet = ap (columns wide) is.1 in
-    length-take-le (columns wide row.sheet) row.texts (rw same (omega arith)) ∙ same
+    let within = column_count-within wide sheet in
+    let same : column_count wide row.sheet ≡ column_count wide sheet = ap (column_count wide) is.1 in
+    length-take-le (column_count wide row.sheet) row.texts (rw same (omega arith)) ∙ same
 
-pub shown-some : (sheet : Sheet) (wide : Bool) (row : SheetRow) → IsRowOf sheet row → 0 < length (shown wide row)
-shown-some sheet wide row is = let some = columns-some wide sheet in let long = length-shown sheet wide row is in omega arith
+pub shown_texts-some : (sheet : Sheet) (wide : Bool) (row : SheetRow) → IsRowOfSheet sheet row → 0 < length (shown_texts wide row)
+shown_texts-some sheet wide row is = let some = column_count-some wide sheet in let long = length-shown sheet wide row is in omega arith
 
 -- ---- texts that a file leaves out
 
@@ -79,34 +79,34 @@ absent-replicate (suc n) = absent-replicate n
 
 -- only empty texts of a row that fits are left out
 pub left_out-empty : (sheet : Sheet) (wide : Bool) (row : SheetRow) → IsRowIn sheet wide row
-    → left_out wide row ≡ replicate (width sheet - columns wide sheet) []
+    → left_out wide row ≡ replicate (width sheet - column_count wide sheet) []
 left_out-empty sheet wide row is =
     absent-all (left_out wide row) is.1
-    ∙ ap (λ m. replicate m []) (length-drop (columns wide row.sheet) row.texts ∙ (λ i. row_width sheet row is.0 i - columns wide (is.0.1 i)))
+    ∙ ap (λ m. replicate m []) (length-drop (column_count wide row.sheet) row.texts ∙ (λ i. row_width sheet row is.0 i - column_count wide (is.0.1 i)))
 
 -- so the row consists of the texts that the file has, followed by empty texts
 pub fitted : (sheet : Sheet) (wide : Bool) (row : SheetRow) → IsRowIn sheet wide row
-    → row.texts ≡ shown wide row ++ replicate (width sheet - columns wide sheet) []
+    → row.texts ≡ shown_texts wide row ++ replicate (width sheet - column_count wide sheet) []
 fitted sheet wide row is =
-    sym (take-append-drop (columns wide row.sheet) row.texts) ∙ ap (λ l. shown wide row ++ l) (left_out-empty sheet wide row is)
+    sym (take-append-drop (column_count wide row.sheet) row.texts) ∙ ap (λ l. shown_texts wide row ++ l) (left_out-empty sheet wide row is)
 
 -- and those texts determine the row
 pub same_shown : (sheet : Sheet) (wide : Bool) (x y : SheetRow) → IsRowIn sheet wide x → IsRowIn sheet wide y
-    → shown wide x ≡ shown wide y → x ≡ y
+    → shown_texts wide x ≡ shown_texts wide y → x ≡ y
 same_shown sheet wide x y is_x is_y e =
     let sheets : x.sheet ≡ y.sheet = is_x.0.1 ∙ sym is_y.0.1 in
     let texts : x.texts ≡ y.texts = fitted sheet wide x is_x
-    ∙ ap (λ l. l ++ replicate (width sheet - columns wide sheet) []) e ∙ sym (fitted sheet wide y is_y) in
+    ∙ ap (λ l. l ++ replicate (width sheet - column_count wide sheet) []) e ∙ sym (fitted sheet wide y is_y) in
     λ i. record { sheet = sheets i; texts = texts i }
 
 -- ---- rows that fit
 
 -- if a file has a column for each field, each row fits
-pub fits-all : (sheet : Sheet) (wide : Bool) (row : SheetRow) → IsRowOf sheet row → columns wide sheet ≡ width sheet → fits wide row ≡ true
+pub fits-all : (sheet : Sheet) (wide : Bool) (row : SheetRow) → IsRowOfSheet sheet row → column_count wide sheet ≡ width sheet → fits wide row ≡ true
 fits-all sheet wide row is all =
     let full : length row.texts ≡ width sheet = row_width sheet row is in
-    let same : columns wide row.sheet ≡ columns wide sheet = ap (columns wide) is.1 in
-    ap (list_all is_absent) (drop_all (columns wide row.sheet) row.texts (rw (same, all, full) (omega arith)))
+    let same : column_count wide row.sheet ≡ column_count wide sheet = ap (column_count wide) is.1 in
+    ap (list_all is_absent) (drop_all (column_count wide row.sheet) row.texts (rw (same, all, full) (omega arith)))
 
 alone-absent : (xs : List Text) → list_all (λ text. bytes_eq text []) xs ≡ true → list_all is_absent xs ≡ true
 alone-absent [] all = refl
@@ -122,8 +122,8 @@ all-drop p (suc n) (x ∷ xs) all = all-drop p n xs (and-parts (p x) (list_all p
 pub fits-alone : (wide : Bool) (row : SheetRow) → is_key_alone row ≡ true → fits wide row ≡ true
 fits-alone wide row alone =
     let k : ℕ = key_len row.sheet in
-    let n : ℕ = columns wide row.sheet in
-    let within : key_len row.sheet ≤ columns wide row.sheet = key-within wide row.sheet in
+    let n : ℕ = column_count wide row.sheet in
+    let within : key_len row.sheet ≤ column_count wide row.sheet = key-within wide row.sheet in
     let split : k + (n - k) ≡ n = omega arith in
     ap (list_all is_absent) (ap (λ m. drop m row.texts) (sym split) ∙ sym (drop-drop (n - k) k row.texts))
     ∙ all-drop is_absent (n - k) (drop k row.texts) (alone-absent (drop k row.texts) alone)
@@ -131,14 +131,14 @@ fits-alone wide row alone =
 -- ---- rows that are filled up
 
 -- a line's texts, with an empty text for each column that it lacks, are the row whose line it is
-pub filled-shown : (sheet : Sheet) (wide : Bool) (texts : List Text) (n : ℕ) → length texts ≡ columns wide sheet
-    → shown wide (row_of sheet (texts ++ replicate n [])) ≡ texts
-filled-shown sheet wide texts n long = take_at texts (replicate n []) (columns wide sheet) long
+pub filled-shown : (sheet : Sheet) (wide : Bool) (texts : List Text) (n : ℕ) → length texts ≡ column_count wide sheet
+    → shown_texts wide (row_of_texts sheet (texts ++ replicate n [])) ≡ texts
+filled-shown sheet wide texts n long = take_at texts (replicate n []) (column_count wide sheet) long
 
-pub filled-fits : (sheet : Sheet) (wide : Bool) (texts : List Text) (n : ℕ) → length texts ≡ columns wide sheet
-    → fits wide (row_of sheet (texts ++ replicate n [])) ≡ true
+pub filled-fits : (sheet : Sheet) (wide : Bool) (texts : List Text) (n : ℕ) → length texts ≡ column_count wide sheet
+    → fits wide (row_of_texts sheet (texts ++ replicate n [])) ≡ true
 filled-fits sheet wide texts n long =
-    ap (list_all is_absent) (drop_at texts (replicate n []) (columns wide sheet) long) ∙ absent-replicate n
+    ap (list_all is_absent) (drop_at texts (replicate n []) (column_count wide sheet) long) ∙ absent-replicate n
 
 -- one more empty text is appended, and none is left to append
 pub filled-step : (texts : List Text) (count counter : ℕ) → counter < count
@@ -152,9 +152,9 @@ filled-end texts all count counter behind is =
     let none : count - counter ≡ 0 = omega arith in
     sym (append-nil texts) ∙ ap (λ n. texts ++ replicate n []) (sym none) ∙ is
 
-pub length-filled : (sheet : Sheet) (wide : Bool) (texts all : List Text) (count : ℕ) → length texts ≡ columns wide sheet
+pub length-filled : (sheet : Sheet) (wide : Bool) (texts all : List Text) (count : ℕ) → length texts ≡ column_count wide sheet
     → count ≡ width sheet → all ≡ texts ++ replicate (count - length texts) [] → length all ≡ width sheet
 length-filled sheet wide texts all count long count_is filled =
-    let within : columns wide sheet ≤ width sheet = columns-within wide sheet in
+    let within : column_count wide sheet ≤ width sheet = column_count-within wide sheet in
     ap length filled ∙ length-append texts (replicate (count - length texts) [])
     ∙ ap (λ n. length texts + n) (length-replicate (count - length texts) []) ∙ omega arith

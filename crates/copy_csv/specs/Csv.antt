@@ -7,15 +7,15 @@ use Rattle.copy_csv.specs.declared.rows.Change.{Change}
 use Rattle.copy_csv.specs.declared.rows.RowTexts.{RowTexts}
 use Rattle.copy_csv.specs.declared.rows.TextChange.{TextChange}
 use Rattle.copy_csv.specs.Rows.{AreChanges, AreRows, changed_row}
-use Rattle.copy_csv.specs.Sheets.{SheetRow, fits, has_widths, left_out, names_shown, shown}
+use Rattle.copy_csv.specs.Sheets.{SheetRow, fits, has_widths, left_out, names_shown, shown_texts}
 
 -- A byte of a field. A quote, which is the byte 34, is doubled.
-abbrev pub doubled : ℕ → List ℕ
-doubled byte = if byte == 34 then 34 ∷ 34 ∷ [] else byte ∷ []
+abbrev pub field_byte : ℕ → List ℕ
+field_byte byte = if byte == 34 then 34 ∷ 34 ∷ [] else byte ∷ []
 
 -- A field in quotes.
-abbrev pub quoted : Text → Text
-quoted text = 34 ∷ (flat_map doubled text ++ 34 ∷ [])
+abbrev pub in_quotes : Text → Text
+in_quotes text = 34 ∷ (flat_map field_byte text ++ 34 ∷ [])
 
 -- The byte after a field: a comma if a field follows, and LF after the last field.
 abbrev pub separator : List Text → ℕ
@@ -23,22 +23,22 @@ separator [] = 10
 separator (text ∷ texts) = 44
 
 -- A line of these fields.
-abbrev pub line : List Text → Text
-line [] = []
-line (text ∷ texts) = quoted text ++ (separator texts ∷ line texts)
+abbrev pub csv_line : List Text → Text
+csv_line [] = []
+csv_line (text ∷ texts) = in_quotes text ++ (separator texts ∷ csv_line texts)
 
 -- The line of a row in a file of this width.
 abbrev pub row_line : Bool → SheetRow → Text
-row_line wide row = line (shown wide row)
+row_line wide row = csv_line (shown_texts wide row)
 
 -- The fields of a change: its action on the key, and the texts of its row.
 abbrev pub change_fields : Bool → Change → List Text
-change_fields wide (Change.Put row) = codes "PUT" ∷ shown wide row
-change_fields wide (Change.Drop row) = codes "DROP" ∷ shown wide row
+change_fields wide (Change.Put row) = codes "PUT" ∷ shown_texts wide row
+change_fields wide (Change.Drop row) = codes "DROP" ∷ shown_texts wide row
 
 -- The line of a change.
 abbrev pub change_line : Bool → Change → Text
-change_line wide change = line (change_fields wide change)
+change_line wide change = csv_line (change_fields wide change)
 
 -- The names at the head of a delta: that of the action, and those of the fields.
 abbrev pub delta_names : Bool → Sheet → List Text
@@ -46,11 +46,11 @@ delta_names wide sheet = codes "Delta.Action" ∷ names_shown wide sheet
 
 -- A copy of this width: a line with the names of the fields, and a line for each row.
 unfoldable pub csv_copy : Sheet → Bool → List SheetRow → Text
-csv_copy sheet wide rows = line (names_shown wide sheet) ++ flat_map (row_line wide) rows
+csv_copy sheet wide rows = csv_line (names_shown wide sheet) ++ flat_map (row_line wide) rows
 
 -- A delta of this width: a line with the names of the columns, and a line for each change.
 unfoldable pub csv_delta : Sheet → Bool → List Change → Text
-csv_delta sheet wide changes = line (delta_names wide sheet) ++ flat_map (change_line wide) changes
+csv_delta sheet wide changes = csv_line (delta_names wide sheet) ++ flat_map (change_line wide) changes
 
 -- The bytes are the copy of this width with these rows. The rows are of this sheet, their keys rise, and they have
 -- nothing for the columns that the copy lacks. Only a sheet that has widths has a wide copy.
@@ -71,16 +71,16 @@ pub record IsCsvDelta (sheet : Sheet) (bytes : Text) (wide : Bool) (changes : Li
 
 -- A field preceded by a comma.
 abbrev pub after_comma : Text → Text
-after_comma text = 44 ∷ quoted text
+after_comma text = 44 ∷ in_quotes text
 
 -- Fields separated by commas.
-abbrev pub fields_text : List Text → Text
-fields_text [] = []
-fields_text (text ∷ texts) = quoted text ++ flat_map after_comma texts
+abbrev pub csv_fields_text : List Text → Text
+csv_fields_text [] = []
+csv_fields_text (text ∷ texts) = in_quotes text ++ flat_map after_comma texts
 
 -- The start of a row's line, up to the end of the line in a narrow file, without LF.
 abbrev pub row_start : SheetRow → Text
-row_start row = fields_text (shown false row)
+row_start row = csv_fields_text (shown_texts false row)
 
 -- What the line of a wide file has in addition: the further fields, each preceded by a comma. Only `lei` has any.
 abbrev pub row_tail : SheetRow → Text

@@ -29,8 +29,8 @@ abbrev pub part : List ℕ → Span → Text
 part bytes span = take (span.end - span.start) (drop span.start bytes)
 
 -- The parts of the bytes that have these ends. The first one starts at 0.
-abbrev pub cut : List ℕ → List ℕ → List Text
-cut bytes ends = map (part bytes) (spans 0 ends)
+abbrev pub parts_at_ends : List ℕ → List ℕ → List Text
+parts_at_ends bytes ends = map (part bytes) (spans 0 ends)
 
 -- The span is within the bytes, and its part is UTF-8 (RFC 3629).
 abbrev pub holds_text : List ℕ → Span → Bool

@@ -5,6 +5,6 @@ use Rattle.copy_csv.specs.declared.faults.FormFault.{FormFault}
 use Rattle.copy_csv.specs.declared.faults.FormFault.TheVariants as faults
 
 -- The message for each reason.
-abbrev pub fault_words : FormFault → Text
-fault_words faults.NotRead = codes "the text is of another form"
-fault_words faults.NoMemory = codes "out of memory"
+abbrev pub form_fault_words : FormFault → Text
+form_fault_words faults.NotRead = codes "the text is of another form"
+form_fault_words faults.NoMemory = codes "out of memory"

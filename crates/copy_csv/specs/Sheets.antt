@@ -30,10 +30,10 @@ has_widths Sheet.Repex = false
 -- The number of columns in a CSV file: one for each of a row's texts, counted from the first. A wide file of `lei` has
 -- one for every field. A narrow one has none for the fields of an event, which are the last four. The other sheets have
 -- one width.
-abbrev pub columns : Bool → Sheet → ℕ
-columns wide Sheet.Lei = if wide then 32 else 28
-columns wide Sheet.Rr = 11
-columns wide Sheet.Repex = 4
+abbrev pub column_count : Bool → Sheet → ℕ
+column_count wide Sheet.Lei = if wide then 32 else 28
+column_count wide Sheet.Rr = 11
+column_count wide Sheet.Repex = 4
 
 -- How many of a row's texts, counted from the first, are its key.
 abbrev pub key_len : Sheet → ℕ
@@ -42,12 +42,12 @@ key_len Sheet.Rr = 3
 key_len Sheet.Repex = 2
 
 -- The names of a sheet's fields in order of place. An exception's action is in no row.
-abbrev pub names : Sheet → List Text
-names sheet = map (λ field. field.0) (row_fields (kind_of sheet))
+abbrev pub column_names : Sheet → List Text
+column_names sheet = map (λ field. field.0) (row_fields (kind_of sheet))
 
 -- The names in the first line of a file of this width, without that of a delta's action.
 abbrev pub names_shown : Bool → Sheet → List Text
-names_shown wide sheet = take (columns wide sheet) (names sheet)
+names_shown wide sheet = take (column_count wide sheet) (column_names sheet)
 
 -- A row of a sheet: its texts in order of place. A text is empty if its field is absent.
 pub record SheetRow : Type 0 where
@@ -55,11 +55,11 @@ pub record SheetRow : Type 0 where
   pub texts : List Text
 
 -- The row with these texts.
-abbrev pub row_of : Sheet → List Text → SheetRow
-row_of sheet texts = record { sheet = sheet; texts = texts }
+abbrev pub row_of_texts : Sheet → List Text → SheetRow
+row_of_texts sheet texts = record { sheet = sheet; texts = texts }
 
 -- A row has as many texts as its sheet has fields, and each is UTF-8. What they say isn't checked.
-pub record IsRow (row : SheetRow) : Type 0 where
+pub record IsSheetRow (row : SheetRow) : Type 0 where
   pub full : length row.texts ≡ width row.sheet
   pub utf8 : IsTrue (list_all is_utf8 row.texts)
 
@@ -72,12 +72,12 @@ abbrev pub is_key_alone : SheetRow → Bool
 is_key_alone row = list_all (λ text. bytes_eq text (codes "")) (drop (key_len row.sheet) row.texts)
 
 -- The texts of the row that a file of this width has.
-abbrev pub shown : Bool → SheetRow → List Text
-shown wide row = take (columns wide row.sheet) row.texts
+abbrev pub shown_texts : Bool → SheetRow → List Text
+shown_texts wide row = take (column_count wide row.sheet) row.texts
 
 -- The texts of the row that a file of this width leaves out.
 abbrev pub left_out : Bool → SheetRow → List Text
-left_out wide row = drop (columns wide row.sheet) row.texts
+left_out wide row = drop (column_count wide row.sheet) row.texts
 
 -- A file of this width loses nothing of the row: all texts that it leaves out are empty.
 abbrev pub fits : Bool → SheetRow → Bool

@@ -8,8 +8,8 @@ use Rattle.std.specs.Str.{IsUtf8}
 use Rattle.lei_code.specs.Texts.{Text}
 use Rattle.lei_records.specs.Tables.{KeyTexts, key_cmp}
 use Rattle.register_words.specs.declared.sheets.Sheet.{Sheet}
-use Rattle.copy_csv.specs.Csv.{line}
-use Rattle.copy_csv.specs.Rows.{AreRising}
+use Rattle.copy_csv.specs.Csv.{csv_line}
+use Rattle.copy_csv.specs.Rows.{KeysRise}
 use Rattle.copy_csv.specs.Sheets.{has_widths}
 
 -- No byte is a quote.
@@ -29,8 +29,8 @@ taken_text true made rest = Some (made, rest)
 taken_text false made rest = None
 
 -- What was read, and what is left.
-abbrev pub taken : {X : Type 0} → Option X → List ℕ → Option (X × List ℕ)
-taken read rest = option_map (λ read. (read, rest)) read
+abbrev pub read_with_rest : {X : Type 0} → Option X → List ℕ → Option (X × List ℕ)
+read_with_rest read rest = option_map (λ read. (read, rest)) read
 
 -- These bytes came next and were consumed, or other bytes came next and none were consumed.
 abbrev pub SkipsAll : List ℕ → List ℕ → Bool → List ℕ → Type 0
@@ -38,9 +38,9 @@ SkipsAll bytes old true new = old ≡ bytes ++ new
 SkipsAll bytes old false new = (new ≡ old) × ((rest : List ℕ) → old ≢ bytes ++ rest)
 
 -- The printed form of a good value came next and was consumed, or no such form came next.
-abbrev pub Reads : {X : Type 0} → (X → List ℕ) → (X → Type 0) → List ℕ → Option X → List ℕ → Type 0
-Reads print Good old (Some x) new = (old ≡ print x ++ new) × Good x
-Reads {X} print Good old None new = (x : X) (rest : List ℕ) → Good x → old ≢ print x ++ rest
+abbrev pub ReadsNext : {X : Type 0} → (X → List ℕ) → (X → Type 0) → List ℕ → Option X → List ℕ → Type 0
+ReadsNext print Good old (Some x) new = (old ≡ print x ++ new) × Good x
+ReadsNext {X} print Good old None new = (x : X) (rest : List ℕ) → Good x → old ≢ print x ++ rest
 
 -- The value comes after the other one by its key, or there is no other.
 abbrev pub comes_after : {X : Type 0} → (X → KeyTexts) → Option X → X → Bool
@@ -48,15 +48,15 @@ comes_after key None x = true
 comes_after key (Some other) x = is_lt (key_cmp (key other) (key x))
 
 -- The value comes after the last one of a list by its key, or the list is empty.
-abbrev pub is_behind : {X : Type 0} → (X → KeyTexts) → List X → X → Bool
-is_behind key xs x = comes_after key (slice_get xs (length xs - 1)) x
+abbrev pub is_after_all : {X : Type 0} → (X → KeyTexts) → List X → X → Bool
+is_after_all key xs x = comes_after key (slice_get xs (length xs - 1)) x
 
 -- The bytes are the printed forms of good values whose keys rise.
-pub record AreRead {X : Type 0} (print : X → List ℕ) (Good : X → Type 0) (key : X → KeyTexts) (bytes : List ℕ)
+pub record AreReadFrom {X : Type 0} (print : X → List ℕ) (Good : X → Type 0) (key : X → KeyTexts) (bytes : List ℕ)
     (xs : List X) : Type 0 where
   pub printed : bytes ≡ flat_map print xs
   pub good : All Good xs
-  pub rising : AreRising (map key xs)
+  pub rising : KeysRise (map key xs)
 
 -- `"PUT",`, with which the line of a row that is put starts.
 abbrev pub put_bytes : List ℕ
@@ -69,7 +69,7 @@ drop_bytes = 34 ∷ 68 ∷ 82 ∷ 79 ∷ 80 ∷ 34 ∷ 44 ∷ []
 -- The bytes are the first line of a file of this width, followed by these lines, which are UTF-8.
 pub record HasLines (names : Bool → Sheet → List Text) (sheet : Sheet) (bytes : List ℕ) (wide : Bool)
     (lines : List ℕ) : Type 0 where
-  pub whole : bytes ≡ line (names wide sheet) ++ lines
+  pub whole : bytes ≡ csv_line (names wide sheet) ++ lines
   pub wide_is : wide ≡ true → has_widths sheet ≡ true
   pub utf8 : IsUtf8 lines
 

@@ -3,7 +3,7 @@ ghost use Rattle.std.specs.Prelude.{◌≡◌, ◌++◌, Bool, List as Items, No
 ghost use Rattle.std.specs.Str.{IsUtf8};
 ghost use Rattle.copy_csv.specs.declared.faults.FormFault.{FormFault};
 ghost use Rattle.copy_csv.specs.declared.rows.Change.{Change as Changed};
-ghost use Rattle.copy_csv.specs.Csv.{IsCsvCopy, IsCsvDelta, delta_names, joined_line, line, text_change_line};
+ghost use Rattle.copy_csv.specs.Csv.{IsCsvCopy, IsCsvDelta, csv_line, delta_names, joined_line, text_change_line};
 ghost use Rattle.copy_csv.specs.Sheets.{SheetRow, names_shown};
 ghost use Rattle.copy_csv.specs.Taking.{FindsBehind, FindsLines, read_lines};
 
@@ -19,7 +19,7 @@ use std::str;
 
 /// The first line of a copy of this width.
 pub fn copy_head(alloc: Global, sheet: Sheet, wide: bool) -> Result<Vec<u8>, NoMemory>
-    ensures { IfOk result (λ head. head.items ≡ line (names_shown wide sheet)) }
+    ensures { IfOk result (λ head. head.items ≡ csv_line (names_shown wide sheet)) }
 {
     let mut head = Vec::new(alloc);
     put_names(&mut head, wide, sheet)?;
@@ -28,7 +28,7 @@ pub fn copy_head(alloc: Global, sheet: Sheet, wide: bool) -> Result<Vec<u8>, NoM
 
 // The first line of a delta of this width.
 fn delta_head(alloc: Global, sheet: Sheet, wide: bool) -> Result<Vec<u8>, NoMemory>
-    ensures { IfOk result (λ head. head.items ≡ line (delta_names wide sheet)) }
+    ensures { IfOk result (λ head. head.items ≡ csv_line (delta_names wide sheet)) }
 {
     let mut head = Vec::new(alloc);
     head.extend_from_slice("\"Delta.Action\",".as_bytes())?;
@@ -47,7 +47,7 @@ pub fn copy_lines<'a>(
 {
     let narrow = copy_head(alloc, sheet, false)?;
     let wide = copy_head(alloc, sheet, true)?;
-    Ok(lines_behind(bytes, &narrow, &wide))
+    Ok(lines_after_head(bytes, &narrow, &wide))
 }
 
 // The same for a delta.
@@ -60,7 +60,7 @@ fn delta_lines<'a>(
 {
     let narrow = delta_head(alloc, sheet, false)?;
     let wide = delta_head(alloc, sheet, true)?;
-    Ok(lines_behind(bytes, &narrow, &wide))
+    Ok(lines_after_head(bytes, &narrow, &wide))
 }
 
 /// Reads a copy. The result has no head.
@@ -111,7 +111,7 @@ pub fn csv_copy_text(
     rows: &[RowTexts],
 ) -> Result<Bytes, NoMemory>
     ensures { IfOk result (λ bytes. bytes ≡
-        line (names_shown wide sheet) ++ flat_map (joined_line wide) rows.now) }
+        csv_line (names_shown wide sheet) ++ flat_map (joined_line wide) rows.now) }
 {
     let mut out = copy_head(alloc, sheet, wide)?;
     out.reserve(lines_room(wide, rows))?;
@@ -144,7 +144,7 @@ pub fn csv_delta_text(
     changes: &[TextChange<'_>],
 ) -> Result<Bytes, NoMemory>
     ensures { IfOk result (λ bytes. bytes ≡
-        line (delta_names wide sheet) ++ flat_map (text_change_line wide) changes.now) }
+        csv_line (delta_names wide sheet) ++ flat_map (text_change_line wide) changes.now) }
 {
     let mut out = delta_head(alloc, sheet, wide)?;
     for change in changes {
@@ -172,7 +172,7 @@ fn put_change(out: &mut Vec<u8>, wide: bool, change: &TextChange<'_>) -> Result<
 
 // The bytes after the first line, if they are UTF-8, and whether that first line is `wide`. The bytes must start with
 // one of the two.
-fn lines_behind<'a>(bytes: &'a [u8], narrow: &[u8], wide: &[u8]) -> Option<(bool, &'a [u8])>
+fn lines_after_head<'a>(bytes: &'a [u8], narrow: &[u8], wide: &[u8]) -> Option<(bool, &'a [u8])>
     ensures { FindsBehind narrow.now wide.now bytes.now (read_lines result) }
 {
     if let Some(lines) = bytes.strip_prefix(narrow) {

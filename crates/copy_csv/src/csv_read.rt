@@ -1,8 +1,8 @@
 //! Reading lines of CSV.
 ghost use Rattle.std.specs.Prelude.{◌≡◌, ◌<◌, ◌==◌, ◌++◌, ◌∷◌, length, IfOk, IfSome, IfNone, IsTrue, is_some, unwrap_or, false, IsSome};
 ghost use Rattle.std.specs.Str.{IsUtf8};
-ghost use Rattle.copy_csv.specs.CsvReading.{behind, field_from, line_from, separator_of, text_from, with_front};
-ghost use Rattle.copy_csv.specs.Taking.{SkipsAll, TakesPart, taken, taken_text};
+ghost use Rattle.copy_csv.specs.CsvReading.{after_byte, csv_field_from, csv_text_from, line_from, separator_of, with_front};
+ghost use Rattle.copy_csv.specs.Taking.{SkipsAll, TakesPart, read_with_rest, taken_text};
 
 use crate::ends::Ends;
 use crate::texts::Texts;
@@ -67,8 +67,8 @@ impl<'a> Reader<'a> {
 
     // Whether this byte comes next. If it does, it skips the byte.
     fn skip(&mut self, byte: u8) -> bool
-        ensures found { result ≡ is_some (behind byte self.old) }
-        ensures rest { self.new ≡ unwrap_or (behind byte self.old) self.old }
+        ensures found { result ≡ is_some (after_byte byte self.old) }
+        ensures rest { self.new ≡ unwrap_or (after_byte byte self.old) self.old }
     {
         let found = self.at < self.bytes.len() && self.bytes[self.at] == byte;
         if found {
@@ -94,7 +94,7 @@ impl<'a> Reader<'a> {
     // closes it.
     fn text(&mut self, out: &mut Vec<u8>) -> Result<bool, NoMemory>
         ensures { IfOk result (λ found. taken_text found out.new.items self.new
-            ≡ with_front out.old.items (text_from self.old false)) }
+            ≡ with_front out.old.items (csv_text_from self.old false)) }
     {
         while self.part(out)? {
             if !self.skip(b'"') {
@@ -108,7 +108,7 @@ impl<'a> Reader<'a> {
     // Appends the text of a field to `out`, if this byte follows the field. False says that no such field comes next.
     fn field(&mut self, byte: u8, out: &mut Vec<u8>) -> Result<bool, NoMemory>
         ensures { IfOk result (λ found. taken_text found out.new.items self.new
-            ≡ with_front out.old.items (field_from byte self.old)) }
+            ≡ with_front out.old.items (csv_field_from byte self.old)) }
     {
         if !self.skip(b'"') || !self.text(out)? {
             return Ok(false);
@@ -128,7 +128,7 @@ impl<'a> Reader<'a> {
     /// The texts of the next line, if it has `count` fields.
     pub fn line(&mut self, alloc: Global, count: usize) -> Result<Option<Texts>, NoMemory>
         requires { IsUtf8 self.old }
-        ensures read { IfOk result (λ texts. taken texts self.new ≡ line_from count self.old) }
+        ensures read { IfOk result (λ texts. read_with_rest texts self.new ≡ line_from count self.old) }
         ensures utf8 { IfOk result (λ texts. IsSome texts → IsUtf8 self.new) }
     {
         let mut bytes = Vec::with_capacity(alloc, self.line_room(count))?;

@@ -5,9 +5,9 @@ ghost use Rattle.std.specs.List.{All};
 ghost use Rattle.copy_csv.specs.declared.rows.Change.{Change as Changed};
 ghost use Rattle.copy_csv.specs.declared.faults.FormFault.{FormFault};
 ghost use Rattle.copy_csv.specs.Csv.{change_line, row_line};
-ghost use Rattle.copy_csv.specs.Rows.{AreRising, IsChangeIn, IsChangeOf, IsRowIn, IsRowOf, changed_key, changed_row};
+ghost use Rattle.copy_csv.specs.Rows.{IsChangeIn, IsChangeOf, IsRowIn, IsRowOfSheet, KeysRise, changed_key, changed_row};
 ghost use Rattle.copy_csv.specs.Sheets.{SheetRow, key};
-ghost use Rattle.copy_csv.specs.Taking.{AreRead, Reads, drop_bytes, is_behind, put_bytes};
+ghost use Rattle.copy_csv.specs.Taking.{AreReadFrom, ReadsNext, drop_bytes, is_after_all, put_bytes};
 
 use crate::csv_read::Reader;
 use crate::faults::FormFault;
@@ -27,12 +27,12 @@ pub fn read_row(
 ) -> Result<Option<Row>, NoMemory>
     requires { IsUtf8 reader.old }
     ensures read { IfOk result
-        (λ row. Reads (row_line wide) (IsRowIn sheet wide) reader.old row reader.new) }
+        (λ row. ReadsNext (row_line wide) (IsRowIn sheet wide) reader.old row reader.new) }
     ensures utf8 { IfOk result (λ row. IsSome row → IsUtf8 reader.new) }
 {
     match reader.line(alloc, columns(wide, sheet))? {
         Some(texts) => {
-            let all = filled(texts, width(sheet))?;
+            let all = with_absent_texts(texts, width(sheet))?;
             Ok(Some(Row::of(sheet, all)))
         }
         None => Ok(None),
@@ -40,7 +40,7 @@ pub fn read_row(
 }
 
 // These texts, followed by empty ones up to `count` texts in all.
-fn filled(mut texts: Texts, count: usize) -> Result<Texts, NoMemory>
+fn with_absent_texts(mut texts: Texts, count: usize) -> Result<Texts, NoMemory>
     requires { length texts ≤ count }
     ensures { IfOk result (λ all. all ≡ texts ++ replicate (count - length texts) []) }
 {
@@ -59,7 +59,7 @@ fn read_put(
 ) -> Result<Option<Change>, NoMemory>
     requires { IsUtf8 reader.old }
     ensures read { IfOk result
-        (λ change. Reads (change_line wide) (IsChangeIn sheet wide) (put_bytes ++ reader.old) change
+        (λ change. ReadsNext (change_line wide) (IsChangeIn sheet wide) (put_bytes ++ reader.old) change
         reader.new) }
     ensures utf8 { IfOk result (λ change. IsSome change → IsUtf8 reader.new) }
 {
@@ -78,7 +78,7 @@ fn read_drop(
 ) -> Result<Option<Change>, NoMemory>
     requires { IsUtf8 reader.old }
     ensures read { IfOk result
-        (λ change. Reads (change_line wide) (IsChangeIn sheet wide) (drop_bytes ++ reader.old) change
+        (λ change. ReadsNext (change_line wide) (IsChangeIn sheet wide) (drop_bytes ++ reader.old) change
         reader.new) }
     ensures utf8 { IfOk result (λ change. IsSome change → IsUtf8 reader.new) }
 {
@@ -103,7 +103,7 @@ fn read_change(
 ) -> Result<Option<Change>, NoMemory>
     requires { IsUtf8 reader.old }
     ensures read { IfOk result
-        (λ change. Reads (change_line wide) (IsChangeIn sheet wide) reader.old change reader.new) }
+        (λ change. ReadsNext (change_line wide) (IsChangeIn sheet wide) reader.old change reader.new) }
     ensures utf8 { IfOk result (λ change. IsSome change → IsUtf8 reader.new) }
 {
     if reader.skip_all(b"\"PUT\",") {
@@ -116,9 +116,9 @@ fn read_change(
 }
 
 // Whether a row comes after the last of the others by its key, or there are no others.
-fn is_row_behind(rows: &[Row], row: &Row) -> bool
+fn row_is_after(rows: &[Row], row: &Row) -> bool
     requires sheet { All (λ other. other.sheet ≡ row.now.sheet) rows.now }
-    ensures { result ≡ is_behind key rows.now row.now }
+    ensures { result ≡ is_after_all key rows.now row.now }
 {
     match rows.last() {
         Some(last) => last.precedes(row),
@@ -128,11 +128,11 @@ fn is_row_behind(rows: &[Row], row: &Row) -> bool
 
 /// Whether the keys of these rows of a sheet rise strictly.
 pub fn are_rows_rising(sheet: Sheet, rows: &[Row]) -> bool
-    requires { All (IsRowOf sheet) rows.now }
-    ensures { IsTrue result ↔ AreRising (map key rows.now) }
+    requires { All (IsRowOfSheet sheet) rows.now }
+    ensures { IsTrue result ↔ KeysRise (map key rows.now) }
 {
     for index in 0..rows.len() {
-        if !is_row_behind(&rows[..index], &rows[index]) {
+        if !row_is_after(&rows[..index], &rows[index]) {
             return false;
         }
     }
@@ -142,10 +142,10 @@ pub fn are_rows_rising(sheet: Sheet, rows: &[Row]) -> bool
 /// Whether the keys of these changes of a sheet rise strictly.
 pub fn are_changes_rising(sheet: Sheet, changes: &[Change]) -> bool
     requires { All (IsChangeOf sheet) changes.now }
-    ensures { IsTrue result ↔ AreRising (map changed_key changes.now) }
+    ensures { IsTrue result ↔ KeysRise (map changed_key changes.now) }
 {
     for index in 0..changes.len() {
-        if !is_change_behind(&changes[..index], &changes[index]) {
+        if !change_is_after(&changes[..index], &changes[index]) {
             return false;
         }
     }
@@ -160,9 +160,10 @@ pub fn read_rows(
     bytes: &[u8],
 ) -> Result<List<Row>, FormFault>
     requires { IsUtf8 bytes.now }
-    ensures found { IfOk result (λ rows. AreRead (row_line wide) (IsRowIn sheet wide) key bytes.now rows) }
+    ensures found { IfOk result
+        (λ rows. AreReadFrom (row_line wide) (IsRowIn sheet wide) key bytes.now rows) }
     ensures only { IsErrOf result FormFault.NotRead
-        → (rows : Items SheetRow) → AreRead (row_line wide) (IsRowIn sheet wide) key bytes.now rows → ⊥ }
+        → (rows : Items SheetRow) → AreReadFrom (row_line wide) (IsRowIn sheet wide) key bytes.now rows → ⊥ }
 {
     let mut rows = Vec::new(alloc);
     let mut reader = Reader::new(bytes);
@@ -171,7 +172,7 @@ pub fn read_rows(
             Some(row) => row,
             None => return Err(FormFault::NotRead),
         };
-        if !is_row_behind(rows.as_slice(), &row) {
+        if !row_is_after(rows.as_slice(), &row) {
             return Err(FormFault::NotRead);
         }
         rows.push(row)?;
@@ -180,9 +181,9 @@ pub fn read_rows(
 }
 
 // Whether a change comes after the last of the others by its key, or there are no others.
-fn is_change_behind(changes: &[Change], change: &Change) -> bool
+fn change_is_after(changes: &[Change], change: &Change) -> bool
     requires sheet { All (λ other. (changed_row other).sheet ≡ (changed_row change.now).sheet) changes.now }
-    ensures { result ≡ is_behind changed_key changes.now change.now }
+    ensures { result ≡ is_after_all changed_key changes.now change.now }
 {
     match changes.last() {
         Some(last) => last.row().precedes(change.row()),
@@ -199,10 +200,10 @@ pub fn read_changes(
 ) -> Result<List<Change>, FormFault>
     requires { IsUtf8 bytes.now }
     ensures found { IfOk result
-        (λ changes. AreRead (change_line wide) (IsChangeIn sheet wide) changed_key bytes.now changes) }
+        (λ changes. AreReadFrom (change_line wide) (IsChangeIn sheet wide) changed_key bytes.now changes) }
     ensures only { IsErrOf result FormFault.NotRead
         → (changes : Items Changed)
-        → AreRead (change_line wide) (IsChangeIn sheet wide) changed_key bytes.now changes → ⊥ }
+        → AreReadFrom (change_line wide) (IsChangeIn sheet wide) changed_key bytes.now changes → ⊥ }
 {
     let mut changes = Vec::new(alloc);
     let mut reader = Reader::new(bytes);
@@ -211,7 +212,7 @@ pub fn read_changes(
             Some(change) => change,
             None => return Err(FormFault::NotRead),
         };
-        if !is_change_behind(changes.as_slice(), &change) {
+        if !change_is_after(changes.as_slice(), &change) {
             return Err(FormFault::NotRead);
         }
         changes.push(change)?;

@@ -1,8 +1,8 @@
 //! Printing lines of CSV with the crate `csv`.
 ghost use Rattle.std.specs.Prelude.{◌≡◌, ◌<◌, ◌++◌, flat_map, length, take, IfOk, OnOk};
-ghost use Rattle.copy_csv.specs.Csv.{after_comma, fields_text, joined_line, line, row_line, row_start, row_tail};
+ghost use Rattle.copy_csv.specs.Csv.{after_comma, csv_fields_text, csv_line, joined_line, row_line, row_start, row_tail};
 ghost use Rattle.copy_csv.specs.Records.{all_quoted};
-ghost use Rattle.copy_csv.specs.Sheets.{names, names_shown, width as spec_width};
+ghost use Rattle.copy_csv.specs.Sheets.{column_names, names_shown, width as spec_width};
 ghost use Rattle.lei_records.specs.Sheets.{read_texts};
 
 use crate::rows::{Row, RowTexts};
@@ -28,7 +28,7 @@ fn quoting() -> WriterBuilder
 // Appends the line of these fields, as `csv` writes it.
 fn put_line(out: &mut Vec<u8>, fields: &[&[u8]]) -> Result<(), NoMemory>
     requires { 0 < length fields.now }
-    ensures { OnOk result (out.new.items ≡ out.old.items ++ line (read_texts fields.now)) }
+    ensures { OnOk result (out.new.items ≡ out.old.items ++ csv_line (read_texts fields.now)) }
 {
     let mut writer = quoting().from_writer(mem::try_take(out)?);
     let Ok(()) = writer.write_fields(fields) else {
@@ -47,8 +47,10 @@ fn put_two_lines(out: &mut Vec<u8>, fields: &[&[u8]], others: &[&[u8]]) -> Resul
     requires some { 0 < length fields.now }
     requires more { 0 < length others.now }
     ensures lines { OnOk result
-        (out.new.items ≡ (out.old.items ++ line (read_texts fields.now)) ++ line (read_texts others.now)) }
-    ensures begins { IfOk result (λ start. start ≡ length (out.old.items ++ line (read_texts fields.now))) }
+        (out.new.items ≡ (out.old.items ++ csv_line (read_texts fields.now))
+        ++ csv_line (read_texts others.now)) }
+    ensures begins { IfOk result (λ start. start ≡ length (out.old.items
+        ++ csv_line (read_texts fields.now))) }
 {
     let mut writer = quoting().from_writer(mem::try_take(out)?);
     let Ok(()) = writer.write_fields(fields) else {
@@ -82,7 +84,7 @@ fn texts_of(row: &Row) -> [&[u8]; MOST]
 // The line of these fields, without LF.
 fn open_line(alloc: Global, room: usize, fields: &[&[u8]]) -> Result<Bytes, NoMemory>
     requires { 0 < length fields.now }
-    ensures { IfOk result (λ text. text ≡ fields_text (read_texts fields.now)) }
+    ensures { IfOk result (λ text. text ≡ csv_fields_text (read_texts fields.now)) }
 {
     let mut line = Vec::with_capacity(alloc, room)?;
     put_line(&mut line, fields)?;
@@ -99,7 +101,7 @@ fn two_texts(
 ) -> Result<(Bytes, Bytes), NoMemory>
     requires some { 0 < length fields.now }
     requires more { 0 < length others.now }
-    ensures line { IfOk result (λ texts. texts.0 ≡ fields_text (read_texts fields.now)) }
+    ensures line { IfOk result (λ texts. texts.0 ≡ csv_fields_text (read_texts fields.now)) }
     ensures further { IfOk result (λ texts. texts.1 ≡ flat_map after_comma (read_texts others.now)) }
 {
     let mut line = Vec::with_capacity(alloc, room)?;
@@ -157,7 +159,7 @@ pub fn put_joined(out: &mut Vec<u8>, wide: bool, texts: &RowTexts) -> Result<(),
 
 // The names of a sheet's fields, in order of place. The entries of the array after them aren't names.
 fn names_of(sheet: Sheet) -> [&'static [u8]; MOST]
-    ensures { read_texts (take (spec_width sheet) result) ≡ names sheet }
+    ensures { read_texts (take (spec_width sheet) result) ≡ column_names sheet }
 {
     let mut names: [&'static [u8]; MOST] = [b""; MOST];
     for index in 0..width(sheet) {
@@ -168,7 +170,7 @@ fn names_of(sheet: Sheet) -> [&'static [u8]; MOST]
 
 /// Appends the line of the names in a file of this width.
 pub fn put_names(out: &mut Vec<u8>, wide: bool, sheet: Sheet) -> Result<(), NoMemory>
-    ensures { OnOk result (out.new.items ≡ out.old.items ++ line (names_shown wide sheet)) }
+    ensures { OnOk result (out.new.items ≡ out.old.items ++ csv_line (names_shown wide sheet)) }
 {
     let names = names_of(sheet);
     put_line(out, &names[..columns(wide, sheet)])

@@ -17,9 +17,9 @@ pub enum FormFault {
 
 impl fmt::Display for FormFault {
     ghost use Rattle.std.specs.Prelude.{Some};
-    ghost use Rattle.copy_csv.specs.Faults.{fault_words};
+    ghost use Rattle.copy_csv.specs.Faults.{form_fault_words};
 
-    ghost output = { λ fault. Some (fault_words fault) };
+    ghost output = { λ fault. Some (form_fault_words fault) };
 
     fn fmt<W: fmt::Write>(&self, f: &mut fmt::Formatter<W>) -> fmt::Result {
         match self {

@@ -20,21 +20,21 @@ pub struct Row {
 }
 
 impl Model for Row {
-    ghost use Rattle.copy_csv.specs.Sheets.{IsRow, SheetRow, row_of};
+    ghost use Rattle.copy_csv.specs.Sheets.{IsSheetRow, SheetRow, row_of_texts};
 
     ghost Value = { SheetRow };
 
-    ghost view = { λ r. row_of r.sheet r.texts };
+    ghost view = { λ r. row_of_texts r.sheet r.texts };
 
-    ghost invariant = { λ r. IsRow (row_of r.sheet r.texts) };
+    ghost invariant = { λ r. IsSheetRow (row_of_texts r.sheet r.texts) };
 }
 
 impl Row {
     /// The row with these texts, which it takes over. There must be one for each field of the sheet.
     pub fn of(sheet: Sheet, texts: Texts) -> Self
         requires { length texts ≡ spec.width sheet }
-        ensures value { result ≡ spec.row_of sheet texts }
-        ensures row { spec.IsRow result }
+        ensures value { result ≡ spec.row_of_texts sheet texts }
+        ensures row { spec.IsSheetRow result }
     {
         let full = texts.len() == width(sheet);
         prove!(full);
@@ -44,7 +44,7 @@ impl Row {
     /// The sheet that the row belongs to.
     pub fn sheet(&self) -> Sheet
         ensures value { result ≡ self.now.sheet }
-        ensures row { spec.IsRow self.now }
+        ensures row { spec.IsSheetRow self.now }
     {
         self.sheet
     }
@@ -54,7 +54,7 @@ impl Row {
         requires first { 1 ≤ place }
         requires last { place ≤ length self.now.texts }
         ensures value { result.now ≡ text_at self.now.texts place }
-        ensures row { spec.IsRow self.now }
+        ensures row { spec.IsSheetRow self.now }
     {
         self.texts.text(place)
     }
@@ -64,7 +64,7 @@ impl Row {
         requires first { 1 ≤ place }
         requires last { place ≤ length self.now.texts }
         ensures value { result.now ≡ text_at self.now.texts place }
-        ensures row { spec.IsRow self.now }
+        ensures row { spec.IsSheetRow self.now }
     {
         self.texts.text_bytes(place)
     }

@@ -30,7 +30,7 @@ pub fn width(sheet: Sheet) -> usize
 
 /// The number of columns in a CSV file of a sheet. A narrow file of `lei` has none for the fields of an event.
 pub fn columns(wide: bool, sheet: Sheet) -> usize
-    ensures { result ≡ spec.columns wide sheet }
+    ensures { result ≡ spec.column_count wide sheet }
 {
     match sheet {
         Sheet::Lei => { if wide { 32 } else { 28 } }
@@ -54,7 +54,7 @@ pub fn key_len(sheet: Sheet) -> usize
 pub fn name_at(sheet: Sheet, place: usize) -> &'static str
     requires first { 1 ≤ place }
     requires last { place ≤ spec.width sheet }
-    ensures { result.now ≡ text_at (spec.names sheet) place }
+    ensures { result.now ≡ text_at (spec.column_names sheet) place }
 {
     kind_of(sheet).fields()[place - 1].0
 }

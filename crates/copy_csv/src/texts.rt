@@ -3,7 +3,7 @@ ghost use Rattle.std.specs.Prelude.{◌≡◌, ◌==◌, ◌≤◌, ◌++◌, �
 ghost use Rattle.std.specs.List.{concat, list_all};
 ghost use Rattle.std.specs.Str.{IsUtf8, is_utf8};
 ghost use Rattle.lei_records.specs.Rows.{text_at};
-ghost use Rattle.copy_csv.specs.Cuts.{IsCut, cut};
+ghost use Rattle.copy_csv.specs.Cuts.{IsCut, parts_at_ends};
 
 use crate::ends::Ends;
 use lei_outside::NoMemory;
@@ -21,11 +21,11 @@ pub struct Texts {
 
 impl Model for Texts {
     ghost use Rattle.std.specs.Prelude.{ℕ, List};
-    ghost use Rattle.copy_csv.specs.Cuts.{IsCut, cut};
+    ghost use Rattle.copy_csv.specs.Cuts.{IsCut, parts_at_ends};
 
     ghost Value = { List (List ℕ) };
 
-    ghost view = { λ t. cut t.bytes.items t.ends };
+    ghost view = { λ t. parts_at_ends t.bytes.items t.ends };
 
     ghost invariant = { λ t. IsCut t.bytes.items t.ends };
 }
@@ -55,7 +55,7 @@ impl Texts {
     /// they must cover all of the bytes.
     pub fn of(bytes: Vec<u8>, ends: Ends) -> Self
         requires { IsCut bytes.items ends }
-        ensures { result ≡ cut bytes.items ends }
+        ensures { result ≡ parts_at_ends bytes.items ends }
     {
         Texts { bytes, ends }
     }

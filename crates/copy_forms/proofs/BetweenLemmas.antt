@@ -12,24 +12,24 @@ use Rattle.std.proofs.lemmas.Option.{slice_get_within}
 use Rattle.lei_records.specs.Tables.{KeyTexts, key_cmp}
 use Rattle.register_words.specs.declared.sheets.Form.{Form}
 use Rattle.register_words.specs.declared.sheets.Sheet.{Sheet}
-use Rattle.copy_csv.specs.Rows.{AreRows, IsRowOf}
-use Rattle.copy_csv.specs.Sheets.{SheetRow, columns, width}
+use Rattle.copy_csv.specs.Rows.{AreRows, IsRowOfSheet}
+use Rattle.copy_csv.specs.Sheets.{SheetRow, column_count, width}
 use Rattle.copy_csv.proofs.WidthLemmas.{fits-all}
 use Rattle.copy_forms.specs.Files.{FitsIn, IsCopy, IsDelta, copy, may_be_wide}
 use Rattle.copy_forms.specs.Patching.{IsPatched, patched}
-use Rattle.copy_forms.specs.Trails.{DeltasLeadOn, DeltasLeadOnFromBetween, FollowOn, IsKeyOf, IsNext, IsSound, Publication, Trail, between, changes_between, copy_head, copy_of, delta_between, delta_head, is_among, is_wide_in, nothing_published, publication_at, row_under, touched_in}
+use Rattle.copy_forms.specs.Trails.{DeltasLeadOn, DeltasLeadOnFromBetween, FollowOn, IsKeyOf, IsNextPublication, IsSoundTrail, Publication, Trail, between, changes_between, copy_head, copy_of, delta_between, delta_head, is_key_among, is_wide_in, nothing_published, publication_at, row_under, touched_in}
 use Rattle.copy_forms.proofs.CopyLemmas.{always}
 use Rattle.copy_forms.proofs.TrailLemmas.{are_changes, leads_over, ordered-fit}
 
 -- ---- what holds up to a place of a trail
 
 -- a key that is in neither of two lists
-unseen : (k : KeyTexts) (xs ys : List KeyTexts) → is_among k (xs ++ ys) ≡ false → (is_among k xs ≡ false) × (is_among k ys ≡ false)
-unseen k xs ys un = or_parts (is_among k xs) (is_among k ys) (sym (list_any-append (eq_by_cmp key_cmp k) xs ys) ∙ un)
+unseen : (k : KeyTexts) (xs ys : List KeyTexts) → is_key_among k (xs ++ ys) ≡ false → (is_key_among k xs ≡ false) × (is_key_among k ys ≡ false)
+unseen k xs ys un = or_parts (is_key_among k xs) (is_key_among k ys) (sym (list_any-append (eq_by_cmp key_cmp k) xs ys) ∙ un)
 
 -- a key that wasn't touched up to a publication has the same row there as before
 kept_to : (before : Publication) (later : List Publication) → FollowOn before later → (n : ℕ) (latest : Publication)
-    → slice_get (before ∷ later) n ≡ Some latest → (sheet : Sheet) (k : KeyTexts) → is_among k (touched_in sheet (take n later)) ≡ false
+    → slice_get (before ∷ later) n ≡ Some latest → (sheet : Sheet) (k : KeyTexts) → is_key_among k (touched_in sheet (take n later)) ≡ false
     → row_under (latest.rows sheet) k ≡ row_under (before.rows sheet) k
 kept_to before later on zero latest e sheet k un =
     ap (λ (p : Publication). row_under (p.rows sheet) k) (sym (ap (λ r. unwrap_or r before) e))
@@ -64,7 +64,7 @@ widens_to before (next ∷ later) on (suc n) latest e wide = widens_to next late
 -- a publication that follows some other one
 record Follows (publication : Publication) : Type 0 where
   before : Publication
-  is_next : IsNext before publication
+  is_next : IsNextPublication before publication
 
 -- each publication of a trail follows another one
 follows_at : (before : Publication) (trail : Trail) (n : ℕ) (publication : Publication) → FollowOn before trail
@@ -113,7 +113,7 @@ at_behind (x ∷ trail) (suc n) m = at_behind trail n m ∙ ap (slice_get (x ∷
 
 -- if a key wasn't touched between two publications, it wasn't touched between any later one and the second
 later_unseen : (trail : Trail) (p q r : ℕ) → p ≤ q → q ≤ r → (sheet : Sheet) (k : KeyTexts)
-    → is_among k (touched_in sheet (between trail p r)) ≡ false → is_among k (touched_in sheet (between trail q r)) ≡ false
+    → is_key_among k (touched_in sheet (between trail p r)) ≡ false → is_key_among k (touched_in sheet (between trail q r)) ≡ false
 later_unseen trail p q r first second sheet k un =
     let a : ℕ = q - p in
     let b : ℕ = r - q in
@@ -125,20 +125,20 @@ later_unseen trail p q r first second sheet k un =
     ap (flat_map touched) (sym (take-append-drop a part)) ∙ flat_map-append touched (take a part) (drop a part) in
     let rest : drop a part ≡ take b (drop q trail) =
     drop-take a b (drop p trail) ∙ ap (take b) (drop-drop a p trail ∙ ap (λ n. drop n trail) place) in
-    let none : is_among k (flat_map touched (take a part) ++ flat_map touched (drop a part)) ≡ false =
-    ap (is_among k) (sym split) ∙ ap (λ n. is_among k (touched_in sheet (take n (drop p trail)))) (sym all) ∙ un in
-    ap (λ (l : List Publication). is_among k (flat_map touched l)) (sym rest)
+    let none : is_key_among k (flat_map touched (take a part) ++ flat_map touched (drop a part)) ≡ false =
+    ap (is_key_among k) (sym split) ∙ ap (λ n. is_key_among k (touched_in sheet (take n (drop p trail)))) (sym all) ∙ un in
+    ap (λ (l : List Publication). is_key_among k (flat_map touched l)) (sym rest)
     ∙ (unseen k (flat_map touched (take a part)) (flat_map touched (drop a part)) none).1
 
 -- ---- what files of each width have
 
 -- rows for which a file of this width has all columns
-all-fit : (sheet : Sheet) (wide : Bool) → columns wide sheet ≡ width sheet → (rows : List SheetRow) → All (IsRowOf sheet) rows
+all-fit : (sheet : Sheet) (wide : Bool) → column_count wide sheet ≡ width sheet → (rows : List SheetRow) → All (IsRowOfSheet sheet) rows
     → All (FitsIn Form.Csv wide) rows
 all-fit sheet wide full [] are = All-nil (FitsIn Form.Csv wide)
 all-fit sheet wide full (row ∷ rows) are =
-    All-cons (FitsIn Form.Csv wide) row rows (fits-all sheet wide row (All-head (IsRowOf sheet) row rows are) full)
-    (all-fit sheet wide full rows (All-tail (IsRowOf sheet) row rows are))
+    All-cons (FitsIn Form.Csv wide) row rows (fits-all sheet wide row (All-head (IsRowOfSheet sheet) row rows are) full)
+    (all-fit sheet wide full rows (All-tail (IsRowOfSheet sheet) row rows are))
 
 -- a file of a publication loses nothing of its rows
 rows-show : (publication : Publication) → Follows publication → (sheet : Sheet) (form : Form)
@@ -157,7 +157,7 @@ rows-show publication is Sheet.Repex Form.Csv = let are : AreRows Sheet.Repex (p
 
 -- ---- the law
 
-module _ (trail : Trail) (on : IsSound trail) (few : length trail ≤ 1_000_000) where
+module _ (trail : Trail) (on : IsSoundTrail trail) (few : length trail ≤ 1_000_000) where
   -- the copy of a publication
   pub copy_stands : (q : ℕ) (copied : Publication) → 1 ≤ q → publication_at trail q ≡ Some copied → (sheet : Sheet) (form : Form)
       → IsCopy (copy_of q copied sheet form) sheet form (copy_head q copied) (is_wide_in copied sheet form) (copied.rows sheet)
@@ -218,7 +218,7 @@ module _ (trail : Trail) (on : IsSound trail) (few : length trail ≤ 1_000_000)
     widths_lead = widens_to copied (drop q trail) behind_copied (r - q) latest there
 
 -- the law, with the heads and the widths of the copy and of the delta
-pub leads_with_heads : (trail : Trail) → IsSound trail → length trail ≤ 1_000_000
+pub leads_with_heads : (trail : Trail) → IsSoundTrail trail → length trail ≤ 1_000_000
     → (p q r : ℕ) (copied latest : Publication) → 1 ≤ p → p ≤ q → q ≤ r
     → publication_at trail q ≡ Some copied → publication_at trail r ≡ Some latest → (sheet : Sheet) (form : Form)
     → (is : IsPatched (copy_of q copied sheet form) (delta_between trail p r latest sheet form) (copy_of r latest sheet form) sheet form)
@@ -247,11 +247,11 @@ leads_with_heads trail on few p q r copied latest from_one first second e_q e_r 
 )
 
 -- the law
-pub deltas_lead_between : (trail : Trail) → IsSound trail → length trail ≤ 1_000_000 → DeltasLeadOnFromBetween trail
+pub deltas_lead_between : (trail : Trail) → IsSoundTrail trail → length trail ≤ 1_000_000 → DeltasLeadOnFromBetween trail
 deltas_lead_between trail on few p q r copied latest from_one first second e_q e_r sheet form =
     let is = leads_with_heads trail on few p q r copied latest from_one first second e_q e_r sheet form in is.0
 
 -- and the case of a delta that starts from the publication of the copy
-pub deltas_lead : (trail : Trail) → IsSound trail → length trail ≤ 1_000_000 → DeltasLeadOn trail
+pub deltas_lead : (trail : Trail) → IsSoundTrail trail → length trail ≤ 1_000_000 → DeltasLeadOn trail
 deltas_lead trail on few p q base latest from_one ordered e_p e_q =
     deltas_lead_between trail on few p p q base latest from_one (omega arith) ordered e_p e_q

@@ -13,11 +13,11 @@ use Rattle.copy_csv.specs.declared.rows.TextChange.{TextChange}
 use Rattle.copy_csv.specs.declared.heads.CopyRead.{CopyRead}
 use Rattle.copy_csv.specs.declared.heads.DeltaRead.{DeltaRead}
 use Rattle.copy_csv.specs.Csv.{IsCsvCopy, IsCsvDelta, rendered_in}
-use Rattle.copy_forms.specs.Files.{IsCopy, IsCopyRead, IsDelta, IsDeltaRead, copy, delta, may_be_wide, rendered, rendered_change}
+use Rattle.copy_forms.specs.Files.{IsCopy, IsCopyRead, IsDelta, IsDeltaRead, copy, delta, may_be_wide, rendered_change, row_renderings}
 use Rattle.copy_forms.specs.Json.{json_copy, json_delta}
 use Rattle.copy_forms.specs.JsonTexts.{before_copy, before_delta, records_text, text_change_record}
 use Rattle.copy_forms.specs.JsonReading.{IsJsonCopy, IsJsonDelta}
-use Rattle.copy_csv.specs.Rows.{AreRising, IsChangeOf, IsCopyHead, IsDeltaHead, IsRowOf, changed_key}
+use Rattle.copy_csv.specs.Rows.{IsChangeOf, IsCopyHead, IsDeltaHead, IsRowOfSheet, KeysRise, changed_key}
 use Rattle.copy_csv.specs.Sheets.{SheetRow, key}
 use Rattle.copy_csv.proofs.FileLemmas.{copy-one_width, delta-one_width}
 use Rattle.copy_forms.proofs.JsonCopies.{copies-differ}
@@ -40,7 +40,7 @@ copy-to sheet bytes head wide rows is = record {
 }
 
 pub copy-with : (sheet : Sheet) (bytes : List ℕ) (head : Head) (rows : List SheetRow) → IsJsonCopy sheet bytes head rows
-    → AreRising (map key rows) → IsCopy bytes sheet Form.Json head false rows
+    → KeysRise (map key rows) → IsCopy bytes sheet Form.Json head false rows
 copy-with sheet bytes head rows is rising = record {
   text = is.text;
   head_is = is.begins;
@@ -51,11 +51,11 @@ copy-with sheet bytes head rows is rising = record {
 
 -- if the keys of the rows don't rise, the bytes aren't a copy
 pub copy-falls : (sheet : Sheet) (bytes : List ℕ) (head : Head) (rows : List SheetRow) → length bytes < 2 ^ 64
-    → IsJsonCopy sheet bytes head rows → (AreRising (map key rows) → ⊥) → (other : Head) (wide : Bool)
+    → IsJsonCopy sheet bytes head rows → (KeysRise (map key rows) → ⊥) → (other : Head) (wide : Bool)
     (others : List SheetRow) → IsCopy bytes sheet Form.Json other wide others → ⊥
 copy-falls sheet bytes head rows short read falls other wide others is =
     let same = copies-differ sheet bytes head other rows others short read (copy-to sheet bytes other wide others is) in
-    falls (subst (λ (l : List SheetRow). AreRising (map key l)) (sym same.1) is.rows_are.rising)
+    falls (subst (λ (l : List SheetRow). KeysRise (map key l)) (sym same.1) is.rows_are.rising)
 
 pub delta-to : (sheet : Sheet) (bytes : List ℕ) (head : Head) (wide : Bool) (changes : List Change)
     → IsDelta bytes sheet Form.Json head wide changes → IsJsonDelta sheet bytes head changes
@@ -66,7 +66,7 @@ delta-to sheet bytes head wide changes is = record {
 }
 
 pub delta-with : (sheet : Sheet) (bytes : List ℕ) (head : Head) (changes : List Change) → IsJsonDelta sheet bytes head changes
-    → AreRising (map changed_key changes) → IsDelta bytes sheet Form.Json head false changes
+    → KeysRise (map changed_key changes) → IsDelta bytes sheet Form.Json head false changes
 delta-with sheet bytes head changes is rising = record {
   text = is.text;
   head_is = is.begins;
@@ -77,11 +77,11 @@ delta-with sheet bytes head changes is rising = record {
 
 -- if the keys of the changes don't rise, the bytes aren't a delta
 pub delta-falls : (sheet : Sheet) (bytes : List ℕ) (head : Head) (changes : List Change) → length bytes < 2 ^ 64
-    → IsJsonDelta sheet bytes head changes → (AreRising (map changed_key changes) → ⊥) → (other : Head) (wide : Bool)
+    → IsJsonDelta sheet bytes head changes → (KeysRise (map changed_key changes) → ⊥) → (other : Head) (wide : Bool)
     (others : List Change) → IsDelta bytes sheet Form.Json other wide others → ⊥
 delta-falls sheet bytes head changes short read falls other wide others is =
     let same = deltas-differ sheet bytes head other changes others short read (delta-to sheet bytes other wide others is) in
-    falls (subst (λ (l : List Change). AreRising (map changed_key l)) (sym same.1) is.changes_are.rising)
+    falls (subst (λ (l : List Change). KeysRise (map changed_key l)) (sym same.1) is.changes_are.rising)
 
 -- two copies with different heads or rows have different texts
 pub copy-same : (sheet : Sheet) (bytes : List ℕ) (head other : Head) (wide wider : Bool) (rows others : List SheetRow) → length bytes < 2 ^ 64
@@ -129,7 +129,7 @@ delta-read sheet bytes (Err e) none is = tt
 -- ---- widths
 
 -- if a sheet has only one width in a form, each text has that width
-pub copy-width : (sheet : Sheet) (form : Form) (wide : Bool) (head : Head) (rows : List SheetRow) → All (IsRowOf sheet) rows
+pub copy-width : (sheet : Sheet) (form : Form) (wide : Bool) (head : Head) (rows : List SheetRow) → All (IsRowOfSheet sheet) rows
     → copy sheet form wide head rows ≡ copy sheet form (wide && may_be_wide sheet form) head rows
 copy-width sheet Form.Json wide head rows all = refl
 copy-width Sheet.Lei Form.Csv true head rows all = refl
@@ -149,7 +149,7 @@ delta-width Sheet.Repex Form.Csv wide head changes all = delta-one_width Sheet.R
 
 pub json-copy-ok : {E : Type 0} (head : Head) (texts : List RowTexts) (r : Result (List ℕ) E)
     → IfOk r (λ bytes. bytes ≡ before_copy head (length texts) (records_text false (map (λ (t : RowTexts). t.json) texts) ++ 125 ∷ []))
-    → IfOk r (λ bytes. (rows : List SheetRow) → texts ≡ map rendered rows → bytes ≡ json_copy head rows)
+    → IfOk r (λ bytes. (rows : List SheetRow) → texts ≡ map row_renderings rows → bytes ≡ json_copy head rows)
 json-copy-ok head texts (Ok bytes) is = λ rows e. is ∙ copy-joined head texts rows e
 json-copy-ok head texts (Err e) is = tt
 

@@ -9,10 +9,10 @@ use Rattle.serde_json.specs.Written.{comma_if, compact_text, items_text}
 use Rattle.lei_shapes.specs.Clock.{moment_text}
 use Rattle.register_words.specs.declared.sheets.Sheet.{Sheet}
 use Rattle.copy_csv.specs.declared.heads.Head.{Head}
-use Rattle.copy_csv.specs.Rows.{IsCopyHead, IsRowOf}
+use Rattle.copy_csv.specs.Rows.{IsCopyHead, IsRowOfSheet}
 use Rattle.copy_csv.specs.Sheets.{SheetRow}
-use Rattle.copy_forms.specs.Json.{items_of, json_copy, json_names, json_record, record_value}
-use Rattle.copy_forms.specs.JsonTexts.{before_copy, before_records, fields_text, records_text}
+use Rattle.copy_forms.specs.Json.{array_items, json_copy, json_names, json_record, record_value}
+use Rattle.copy_forms.specs.JsonTexts.{before_copy, before_records, json_fields_text, records_text}
 use Rattle.copy_forms.specs.JsonReading.{IsJsonCopy, copy_from, count_from, date_from, items_from, publication_from, record_from}
 use Rattle.copy_forms.proofs.JsonRecords.{in_json_order, record-again, record-taken, record-text}
 use Rattle.copy_forms.proofs.JsonItems.{IsReader, end-is, items-again, items-taken, items_and_end, records-text}
@@ -29,13 +29,13 @@ pub copy-text : (head : Head) (rows : List SheetRow) → json_copy head rows ≡
 unfolding json_copy
 copy-text head rows =
     let values = map record_value rows in
-    ap (λ n. before_copy head n (items_text false (items_of values) ++ 125 ∷ [])) (length-map rows record_value)
+    ap (λ n. before_copy head n (items_text false (array_items values) ++ 125 ∷ [])) (length-map rows record_value)
     ∙ ap (λ l. before_copy head (length rows) (l ++ 125 ∷ [])) (records-text false values ∙ ap (records_text false) (texts-of rows))
     ∙ ap (before_copy head (length rows)) (sym (end-is false (map json_record rows)))
 
 -- ---- rows
 
-pub row-reader : (sheet : Sheet) → IsReader (record_from sheet) json_record (IsRowOf sheet)
+pub row-reader : (sheet : Sheet) → IsReader (record_from sheet) json_record (IsRowOfSheet sheet)
 row-reader sheet = record {
   again = λ row rest sound. ap (λ s. record_from s (json_record row ++ rest)) (sym sound.1) ∙ record-again row rest sound.0;
   is = λ bytes row rest read. (record-taken sheet bytes row rest read).is;
@@ -63,14 +63,14 @@ pub mapped : {X Y : Type 0} (step : X → Y) (found : Option X) (y : Y) → opti
 mapped step None y is = absurd (none-some y is)
 mapped step (Some x) y is = record { at = x; is = refl; same = ap (λ o. unwrap_or o y) is }
 
-pub copy-again : (sheet : Sheet) (head : Head) (rows : List SheetRow) → IsCopyHead head → All (IsRowOf sheet) rows → length rows < 2 ^ 64
+pub copy-again : (sheet : Sheet) (head : Head) (rows : List SheetRow) → IsCopyHead head → All (IsRowOfSheet sheet) rows → length rows < 2 ^ 64
     → copy_from sheet (json_copy head rows) ≡ Some (head, rows)
 unfolding copy_from
 copy-again sheet head rows is sound fits =
     let items = items_and_end false (map json_record rows) in
     let counted = before_records (length rows) items in
     let numbered = 44 ∷ (quoted (codes "publication") ++ 58 ∷ (decimal head.publication ++ counted)) in
-    let reads = items-again (record_from sheet) json_record (IsRowOf sheet) (row-reader sheet) rows false sound in
+    let reads = items-again (record_from sheet) json_record (IsRowOfSheet sheet) (row-reader sheet) rows false sound in
     let made : Some (record { moment = head.moment; publication = head.publication; from = 0 }, rows) ≡ Some (head, rows) =
     ap (λ from. Some (record { moment = head.moment; publication = head.publication; from = from }, rows)) (sym is.from) in
     rw (
@@ -91,7 +91,7 @@ copy-taken sheet bytes head rows is =
     let date = date-taken bytes first.at.0 first.at.1 first.is in
     let publication = publication-taken (codes "publication") first.at.1 second.at.0 second.at.1 second.is in
     let count = count-taken second.at.1 third.at.0 third.at.1 third.is in
-    let items = items-taken (record_from sheet) json_record (IsRowOf sheet) (row-reader sheet) third.at.0 false third.at.1 fourth.at fourth.is in
+    let items = items-taken (record_from sheet) json_record (IsRowOfSheet sheet) (row-reader sheet) third.at.0 false third.at.1 fourth.at fourth.is in
     let given : Head = record { moment = first.at.0; publication = second.at.0; from = 0 } in
     let P : Head × List SheetRow → Type 0 = λ p. IsJsonCopy sheet bytes p.0 p.1 in
     subst P fourth.same (record {
@@ -116,7 +116,7 @@ records-long later (row ∷ rows) =
     let below = records-long true rows in
     let whole = longer (comma_if later) (json_record row ++ others) in
     let text : length (json_record row ++ others) ≡ length (json_record row) + length others = length-append (json_record row) others in
-    let some : length (json_record row) ≡ suc (length (fields_text false (zip (json_names row.sheet) (in_json_order row)))) = ap length (record-text row) in
+    let some : length (json_record row) ≡ suc (length (json_fields_text false (zip (json_names row.sheet) (in_json_order row)))) = ap length (record-text row) in
     omega arith
 
 pub before_records-long : (n : ℕ) (rest : List ℕ) → length rest ≤ length (before_records n rest)

@@ -11,12 +11,12 @@ use Rattle.lei_shapes.specs.Clock.{moment_text}
 use Rattle.register_words.specs.declared.sheets.Sheet.{Sheet}
 use Rattle.copy_csv.specs.declared.heads.Head.{Head}
 use Rattle.copy_csv.specs.declared.rows.Change.{Change}
-use Rattle.copy_csv.specs.Rows.{IsChangeOf, IsDeltaHead, IsDropOfKey, IsRowOf, changed_row}
+use Rattle.copy_csv.specs.Rows.{IsChangeOf, IsDeltaHead, IsDropOfKey, IsRowOfSheet, changed_row}
 use Rattle.copy_csv.specs.Sheets.{SheetRow, is_key_alone}
-use Rattle.copy_forms.specs.Json.{action_of, change_value, items_of, json_delta, json_record}
+use Rattle.copy_forms.specs.Json.{action_of, array_items, change_value, json_delta, json_record}
 use Rattle.copy_forms.specs.JsonTexts.{before_delta, before_record, before_records, records_text}
-use Rattle.copy_forms.specs.JsonReading.{IsJsonDelta, after, change_behind, change_from, change_of, changed_from, count_from, date_from, delta_from, items_from, publication_from, record_from}
-use Rattle.copy_forms.proofs.JsonStrings.{after-again, after-taken}
+use Rattle.copy_forms.specs.JsonReading.{IsJsonDelta, after_front, change_after, change_from, change_with_row, changed_from, count_from, date_from, delta_from, items_from, publication_from, record_from}
+use Rattle.copy_forms.proofs.JsonStrings.{after_front-again, after_front-taken}
 use Rattle.copy_forms.proofs.JsonRecords.{record-again, record-taken}
 use Rattle.copy_forms.proofs.JsonItems.{IsReader, end-is, items-again, items-taken, items_and_end, records-text}
 use Rattle.copy_forms.proofs.JsonFiles.{count-again, count-taken, date-again, date-taken, publication-again, publication-taken}
@@ -47,32 +47,32 @@ change-before change rest =
     ∙ append_assoc (before_record (action_of change) []) (json_record (changed_row change) ++ 125 ∷ []) rest
     ∙ ap (λ l. before_record (action_of change) [] ++ l) (append_assoc (json_record (changed_row change)) (125 ∷ []) rest)
 
-drop_is_no_put : (rest : List ℕ) → after (before_record (codes "PUT") []) (before_record (codes "DROP") [] ++ rest) ≡ None
+drop_is_no_put : (rest : List ℕ) → after_front (before_record (codes "PUT") []) (before_record (codes "DROP") [] ++ rest) ≡ None
 unfolding escape_byte
 drop_is_no_put rest = refl
 
 -- what follows the start of a change is read back
-changed-again : (sheet : Sheet) (puts : Bool) (row : SheetRow) (change : Change) (rest : List ℕ) → IsRowOf sheet row → change_of puts row ≡ Some change
+changed-again : (sheet : Sheet) (puts : Bool) (row : SheetRow) (change : Change) (rest : List ℕ) → IsRowOfSheet sheet row → change_with_row puts row ≡ Some change
     → changed_from sheet puts (json_record row ++ 125 ∷ rest) ≡ Some (change, rest)
 changed-again sheet puts row change rest sound is =
     let read : record_from sheet (json_record row ++ 125 ∷ rest) ≡ Some (row, 125 ∷ rest) =
     ap (λ s. record_from s (json_record row ++ 125 ∷ rest)) (sym sound.1) ∙ record-again row (125 ∷ rest) sound.0 in
-    ap (option_and_then {U = Change × List ℕ} (λ r. option_and_then {U = Change × List ℕ} (λ left. option_map {U = Change × List ℕ} (λ c. (c, left)) (change_of puts r.0)) (after (125 ∷ []) r.1))) read
+    ap (option_and_then {U = Change × List ℕ} (λ r. option_and_then {U = Change × List ℕ} (λ left. option_map {U = Change × List ℕ} (λ c. (c, left)) (change_with_row puts r.0)) (after_front (125 ∷ []) r.1))) read
     ∙ ap (option_map {U = Change × List ℕ} (λ c. (c, rest))) is
 
 change-again : (sheet : Sheet) (change : Change) (rest : List ℕ) → IsChangeOf sheet change → change_from sheet (json_change change ++ rest) ≡ Some (change, rest)
 unfolding change_from
 change-again sheet (Change.Put row) rest sound =
     let bytes = json_record row ++ 125 ∷ rest in
-    ap (λ l. change_behind sheet (after (before_record (codes "PUT") []) l) (after (before_record (codes "DROP") []) l)) (change-before (Change.Put row) rest)
-    ∙ ap (λ found. change_behind sheet found (after (before_record (codes "DROP") []) (before_record (codes "PUT") [] ++ bytes))) (after-again (before_record (codes "PUT") []) bytes)
+    ap (λ l. change_after sheet (after_front (before_record (codes "PUT") []) l) (after_front (before_record (codes "DROP") []) l)) (change-before (Change.Put row) rest)
+    ∙ ap (λ found. change_after sheet found (after_front (before_record (codes "DROP") []) (before_record (codes "PUT") [] ++ bytes))) (after_front-again (before_record (codes "PUT") []) bytes)
     ∙ changed-again sheet true row (Change.Put row) rest sound.0 refl
 change-again sheet (Change.Drop row) rest sound =
     let bytes = json_record row ++ 125 ∷ rest in
-    let alone : change_of false row ≡ Some (Change.Drop row) = ap (λ b. cond b (Some (Change.Drop row)) None) sound.1 in
-    ap (λ l. change_behind sheet (after (before_record (codes "PUT") []) l) (after (before_record (codes "DROP") []) l)) (change-before (Change.Drop row) rest)
-    ∙ ap (λ found. change_behind sheet found (after (before_record (codes "DROP") []) (before_record (codes "DROP") [] ++ bytes))) (drop_is_no_put bytes)
-    ∙ ap (change_behind sheet None) (after-again (before_record (codes "DROP") []) bytes)
+    let alone : change_with_row false row ≡ Some (Change.Drop row) = ap (λ b. cond b (Some (Change.Drop row)) None) sound.1 in
+    ap (λ l. change_after sheet (after_front (before_record (codes "PUT") []) l) (after_front (before_record (codes "DROP") []) l)) (change-before (Change.Drop row) rest)
+    ∙ ap (λ found. change_after sheet found (after_front (before_record (codes "DROP") []) (before_record (codes "DROP") [] ++ bytes))) (drop_is_no_put bytes)
+    ∙ ap (change_after sheet None) (after_front-again (before_record (codes "DROP") []) bytes)
     ∙ changed-again sheet false row (Change.Drop row) rest sound.0 alone
 
 record ChangeTaken (sheet : Sheet) (bytes : List ℕ) (change : Change) (rest : List ℕ) : Type 0 where
@@ -89,7 +89,7 @@ record Chosen (puts : Bool) (row : SheetRow) (change : Change) : Type 0 where
   acts : action_of change ≡ action puts
   alone : IsDropOfKey change
 
-chosen : (puts : Bool) (row : SheetRow) (change : Change) → change_of puts row ≡ Some change → Chosen puts row change
+chosen : (puts : Bool) (row : SheetRow) (change : Change) → change_with_row puts row ≡ Some change → Chosen puts row change
 unfolding action
 chosen true row change is =
     let P : Change → Type 0 = Chosen true row in
@@ -102,20 +102,20 @@ chosen false row change is = go (is_key_alone row) refl is
         subst P (ap (λ o. unwrap_or o (Change.Drop row)) found) (record { same = refl; acts = refl; alone = alone })
     go false alone found = absurd (none-some change found)
 
-changed-taken : (sheet : Sheet) (puts : Bool) (bytes behind : List ℕ) (change : Change) (rest : List ℕ) → after (before_record (action puts) []) bytes ≡ Some behind
+changed-taken : (sheet : Sheet) (puts : Bool) (bytes behind : List ℕ) (change : Change) (rest : List ℕ) → after_front (before_record (action puts) []) bytes ≡ Some behind
     → changed_from sheet puts behind ≡ Some (change, rest) → ChangeTaken sheet bytes change rest
 changed-taken sheet puts bytes behind change rest begins is =
     let first = through {X = SheetRow × List ℕ} {Y = Change × List ℕ} _ (record_from sheet behind) (change, rest) is in
-    let second = through {X = List ℕ} {Y = Change × List ℕ} _ (after (125 ∷ []) first.at.1) (change, rest) first.behind in
-    let third = mapped {X = Change} {Y = Change × List ℕ} _ (change_of puts first.at.0) (change, rest) second.behind in
+    let second = through {X = List ℕ} {Y = Change × List ℕ} _ (after_front (125 ∷ []) first.at.1) (change, rest) first.behind in
+    let third = mapped {X = Change} {Y = Change × List ℕ} _ (change_with_row puts first.at.0) (change, rest) second.behind in
     let this : third.at ≡ change = ap (λ p. p.0) third.same in
     let left : second.at ≡ rest = ap (λ p. p.1) third.same in
     let facts = chosen puts first.at.0 change (third.is ∙ ap Some this) in
     let row = record-taken sheet behind first.at.0 first.at.1 first.is in
-    let closes : first.at.1 ≡ 125 ∷ rest = after-taken (125 ∷ []) first.at.1 second.at second.is ∙ ap (λ r. 125 ∷ r) left in
-    let P : SheetRow → Type 0 = IsRowOf sheet in
+    let closes : first.at.1 ≡ 125 ∷ rest = after_front-taken (125 ∷ []) first.at.1 second.at second.is ∙ ap (λ r. 125 ∷ r) left in
+    let P : SheetRow → Type 0 = IsRowOfSheet sheet in
     record {
-      is = after-taken (before_record (action puts) []) bytes behind begins
+      is = after_front-taken (before_record (action puts) []) bytes behind begins
           ∙ ap (λ l. before_record (action puts) [] ++ l) (row.is ∙ ap (λ l. json_record first.at.0 ++ l) closes ∙ ap (λ r. json_record r ++ 125 ∷ rest) (sym facts.same))
           ∙ ap (λ a. before_record a [] ++ (json_record (changed_row change) ++ 125 ∷ rest)) (sym facts.acts) ∙ sym (change-before change rest);
       sound = (subst P (sym facts.same) (row.holds, row.belongs), facts.alone);
@@ -123,15 +123,15 @@ changed-taken sheet puts bytes behind change rest begins is =
 
 change-taken : (sheet : Sheet) (bytes : List ℕ) (change : Change) (rest : List ℕ) → change_from sheet bytes ≡ Some (change, rest) → ChangeTaken sheet bytes change rest
 unfolding change_from action
-change-taken sheet bytes change rest is = go (after (before_record (codes "PUT") []) bytes) refl is
+change-taken sheet bytes change rest is = go (after_front (before_record (codes "PUT") []) bytes) refl is
   where
-    drops : (found : Option (List ℕ)) → after (before_record (codes "DROP") []) bytes ≡ found → change_behind sheet None found ≡ Some (change, rest) → ChangeTaken sheet bytes change rest
+    drops : (found : Option (List ℕ)) → after_front (before_record (codes "DROP") []) bytes ≡ found → change_after sheet None found ≡ Some (change, rest) → ChangeTaken sheet bytes change rest
     drops None begins same = absurd (none-some (change, rest) same)
     drops (Some behind) begins same = changed-taken sheet false bytes behind change rest begins same
 
-    go : (found : Option (List ℕ)) → after (before_record (codes "PUT") []) bytes ≡ found
-        → change_behind sheet found (after (before_record (codes "DROP") []) bytes) ≡ Some (change, rest) → ChangeTaken sheet bytes change rest
-    go None begins same = drops (after (before_record (codes "DROP") []) bytes) refl same
+    go : (found : Option (List ℕ)) → after_front (before_record (codes "PUT") []) bytes ≡ found
+        → change_after sheet found (after_front (before_record (codes "DROP") []) bytes) ≡ Some (change, rest) → ChangeTaken sheet bytes change rest
+    go None begins same = drops (after_front (before_record (codes "DROP") []) bytes) refl same
     go (Some behind) begins same = changed-taken sheet true bytes behind change rest begins same
 
 pub change-reader : (sheet : Sheet) → IsReader (change_from sheet) json_change (IsChangeOf sheet)
@@ -151,7 +151,7 @@ pub delta-text : (head : Head) (changes : List Change) → json_delta head chang
 unfolding json_delta
 delta-text head changes =
     let values = map change_value changes in
-    ap (λ n. before_delta head n (items_text false (items_of values) ++ 125 ∷ [])) (length-map changes change_value)
+    ap (λ n. before_delta head n (items_text false (array_items values) ++ 125 ∷ [])) (length-map changes change_value)
     ∙ ap (λ l. before_delta head (length changes) (l ++ 125 ∷ [])) (records-text false values ∙ ap (records_text false) (texts-of changes))
     ∙ ap (before_delta head (length changes)) (sym (end-is false (map json_change changes)))
 

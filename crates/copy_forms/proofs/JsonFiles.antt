@@ -20,10 +20,10 @@ use Rattle.lei_code.specs.Texts.{Text}
 use Rattle.lei_shapes.specs.Clock.{moment_text}
 use Rattle.lei_shapes.specs.Moment.{IsMoment, is_moment, moment_of_instant, read_moment, whole_seconds}
 use Rattle.lei_shapes.proofs.MomentLemmas.{IsAscii-moment_text, read_moment-text}
-use Rattle.copy_csv.specs.Rows.{IsNumber}
+use Rattle.copy_csv.specs.Rows.{IsPublicationNumber}
 use Rattle.copy_forms.specs.JsonTexts.{before_records}
-use Rattle.copy_forms.specs.JsonReading.{after, count_from, date_begin, date_from, is_publication, moment_from, number_begin, number_behind, number_from, number_of, printed_moment, publication_behind, records_begin, string_from}
-use Rattle.copy_forms.proofs.JsonStrings.{after-again, after-taken, string-again, string-taken}
+use Rattle.copy_forms.specs.JsonReading.{after_front, count_from, date_from, date_start, is_publication_number, moment_from, number_after_front, number_from, number_start, printed_moment, publication_after_front, publication_number_in, records_start, string_from}
+use Rattle.copy_forms.proofs.JsonStrings.{after_front-again, after_front-taken, string-again, string-taken}
 use Rattle.copy_forms.proofs.JsonHeads.{moment-some, number-is, number-taken}
 
 -- ---- moments
@@ -32,7 +32,7 @@ use Rattle.copy_forms.proofs.JsonHeads.{moment-some, number-is, number-taken}
 abbrev before_rest : Text → List ℕ → List ℕ
 before_rest text rest = 123 ∷ (quoted (codes "contentDate") ++ 58 ∷ (quoted text ++ rest))
 
-date-shape : (text rest : List ℕ) → before_rest text rest ≡ date_begin ++ (escape text ++ 34 ∷ rest)
+date-shape : (text rest : List ℕ) → before_rest text rest ≡ date_start ++ (escape text ++ 34 ∷ rest)
 date-shape text rest =
     ap (λ l. 123 ∷ (quoted (codes "contentDate") ++ 58 ∷ 34 ∷ l)) (append_assoc (escape text) (34 ∷ []) rest)
     ∙ ap (λ l. 123 ∷ l) (sym (append_assoc (quoted (codes "contentDate")) (58 ∷ 34 ∷ []) (escape text ++ 34 ∷ rest)))
@@ -51,8 +51,8 @@ moment-again m rest is =
 pub date-again : (m : ℤ) (rest : List ℕ) → IsMoment m → date_from (before_rest (moment_text m) rest) ≡ Some (m, rest)
 unfolding date_from
 date-again m rest is =
-    ap (λ l. option_and_then moment_from (after date_begin l)) (date-shape (moment_text m) rest)
-    ∙ ap (option_and_then moment_from) (after-again date_begin (escape (moment_text m) ++ 34 ∷ rest)) ∙ moment-again m rest is
+    ap (λ l. option_and_then moment_from (after_front date_start l)) (date-shape (moment_text m) rest)
+    ∙ ap (option_and_then moment_from) (after_front-again date_start (escape (moment_text m) ++ 34 ∷ rest)) ∙ moment-again m rest is
 
 inside : (s : ℤ) → is_moment s ≡ true → IsMoment s
 inside s test = grind (arith, ints)
@@ -115,13 +115,13 @@ moment-taken bytes m rest is = go (string_from bytes) refl is
 
 pub date-taken : (bytes : List ℕ) (m : ℤ) (rest : List ℕ) → date_from bytes ≡ Some (m, rest) → DateTaken bytes m rest
 unfolding date_from
-date-taken bytes m rest is = go (after date_begin bytes) refl is
+date-taken bytes m rest is = go (after_front date_start bytes) refl is
   where
-    go : (found : Option (List ℕ)) → after date_begin bytes ≡ found → option_and_then moment_from found ≡ Some (m, rest) → DateTaken bytes m rest
+    go : (found : Option (List ℕ)) → after_front date_start bytes ≡ found → option_and_then moment_from found ≡ Some (m, rest) → DateTaken bytes m rest
     go None front same = absurd (none-some (m, rest) same)
     go (Some behind) front same =
         let taken = moment-taken behind m rest same in
-        record { is = after-taken date_begin bytes behind front ∙ ap (λ l. date_begin ++ l) taken.0 ∙ sym (date-shape (moment_text m) rest); moment = taken.1 }
+        record { is = after_front-taken date_start bytes behind front ∙ ap (λ l. date_start ++ l) taken.0 ∙ sym (date-shape (moment_text m) rest); moment = taken.1 }
 
 -- ---- numbers
 
@@ -138,9 +138,9 @@ unfolding number_from
 number-again n rest fits =
     let stop : prefix_len is_ascii_digit (decimal n ++ 44 ∷ rest) ≡ length (decimal n) = digits-stop (decimal n) 44 rest (decimal_is_IsNumeral n fits).0.1 refl in
     let all = decimal n ++ 44 ∷ rest in
-    ap (λ k. option_map {U = ℕ × List ℕ} (λ number. (number, drop k all)) (number_of (take k all))) stop
-    ∙ ap (λ d. option_map {U = ℕ × List ℕ} (λ number. (number, drop (length (decimal n)) all)) (number_of d)) (take-append_seam (decimal n) (44 ∷ rest))
-    ∙ ap (λ r. option_map {U = ℕ × List ℕ} (λ number. (number, r)) (number_of (decimal n))) (drop-append_seam (decimal n) (44 ∷ rest))
+    ap (λ k. option_map {U = ℕ × List ℕ} (λ number. (number, drop k all)) (publication_number_in (take k all))) stop
+    ∙ ap (λ d. option_map {U = ℕ × List ℕ} (λ number. (number, drop (length (decimal n)) all)) (publication_number_in d)) (take-append_seam (decimal n) (44 ∷ rest))
+    ∙ ap (λ r. option_map {U = ℕ × List ℕ} (λ number. (number, r)) (publication_number_in (decimal n))) (drop-append_seam (decimal n) (44 ∷ rest))
     ∙ ap (option_map {U = ℕ × List ℕ} (λ number. (number, 44 ∷ rest))) (number-is (decimal n) n fits refl)
 
 pub record NumberRead (bytes : List ℕ) (n : ℕ) (rest : List ℕ) : Type 0 where
@@ -149,12 +149,12 @@ pub record NumberRead (bytes : List ℕ) (n : ℕ) (rest : List ℕ) : Type 0 wh
 
 pub number_from-taken : (bytes : List ℕ) (n : ℕ) (rest : List ℕ) → number_from bytes ≡ Some (n, rest) → NumberRead bytes n rest
 unfolding number_from
-number_from-taken bytes n rest is = go (number_of (take k bytes)) refl is
+number_from-taken bytes n rest is = go (publication_number_in (take k bytes)) refl is
   where
     k : ℕ
     k = prefix_len is_ascii_digit bytes
 
-    go : (found : Option ℕ) → number_of (take (prefix_len is_ascii_digit bytes) bytes) ≡ found
+    go : (found : Option ℕ) → publication_number_in (take (prefix_len is_ascii_digit bytes) bytes) ≡ found
         → option_map {U = ℕ × List ℕ} (λ number. (number, drop (prefix_len is_ascii_digit bytes) bytes)) found ≡ Some (n, rest) → NumberRead bytes n rest
     go None reads same = absurd (none-some (n, rest) same)
     go (Some number) reads same =
@@ -166,68 +166,68 @@ number_from-taken bytes n rest is = go (number_of (take k bytes)) refl is
 
 -- ---- members that are numbers
 
-number-shape : (name : Text) (n : ℕ) (rest : List ℕ) → 44 ∷ (quoted name ++ 58 ∷ (decimal n ++ rest)) ≡ number_begin name ++ (decimal n ++ rest)
+number-shape : (name : Text) (n : ℕ) (rest : List ℕ) → 44 ∷ (quoted name ++ 58 ∷ (decimal n ++ rest)) ≡ number_start name ++ (decimal n ++ rest)
 number-shape name n rest = ap (λ l. 44 ∷ l) (sym (append_assoc (quoted name) (58 ∷ []) (decimal n ++ rest)))
 
-pub behind-again : (name : Text) (n : ℕ) (rest : List ℕ) → n < 2 ^ 64 → number_behind (number_begin name) (44 ∷ (quoted name ++ 58 ∷ (decimal n ++ 44 ∷ rest))) ≡ Some (n, 44 ∷ rest)
+pub behind-again : (name : Text) (n : ℕ) (rest : List ℕ) → n < 2 ^ 64 → number_after_front (number_start name) (44 ∷ (quoted name ++ 58 ∷ (decimal n ++ 44 ∷ rest))) ≡ Some (n, 44 ∷ rest)
 behind-again name n rest fits =
-    ap (λ l. option_and_then number_from (after (number_begin name) l)) (number-shape name n (44 ∷ rest))
-    ∙ ap (option_and_then number_from) (after-again (number_begin name) (decimal n ++ 44 ∷ rest)) ∙ number-again n rest fits
+    ap (λ l. option_and_then number_from (after_front (number_start name) l)) (number-shape name n (44 ∷ rest))
+    ∙ ap (option_and_then number_from) (after_front-again (number_start name) (decimal n ++ 44 ∷ rest)) ∙ number-again n rest fits
 
 pub record MemberTaken (name : Text) (bytes : List ℕ) (n : ℕ) (rest : List ℕ) : Type 0 where
   pub is : bytes ≡ 44 ∷ (quoted name ++ 58 ∷ (decimal n ++ rest))
   pub fits : n < 2 ^ 64
 
-pub behind-taken : (name : Text) (bytes : List ℕ) (n : ℕ) (rest : List ℕ) → number_behind (number_begin name) bytes ≡ Some (n, rest) → MemberTaken name bytes n rest
-behind-taken name bytes n rest is = go (after (number_begin name) bytes) refl is
+pub behind-taken : (name : Text) (bytes : List ℕ) (n : ℕ) (rest : List ℕ) → number_after_front (number_start name) bytes ≡ Some (n, rest) → MemberTaken name bytes n rest
+behind-taken name bytes n rest is = go (after_front (number_start name) bytes) refl is
   where
-    go : (found : Option (List ℕ)) → after (number_begin name) bytes ≡ found → option_and_then number_from found ≡ Some (n, rest) → MemberTaken name bytes n rest
+    go : (found : Option (List ℕ)) → after_front (number_start name) bytes ≡ found → option_and_then number_from found ≡ Some (n, rest) → MemberTaken name bytes n rest
     go None front same = absurd (none-some (n, rest) same)
     go (Some digits) front same =
         let taken = number_from-taken digits n rest same in
-        record { is = after-taken (number_begin name) bytes digits front ∙ ap (λ d. number_begin name ++ d) taken.is ∙ sym (number-shape name n rest); fits = taken.fits }
+        record { is = after_front-taken (number_start name) bytes digits front ∙ ap (λ d. number_start name ++ d) taken.is ∙ sym (number-shape name n rest); fits = taken.fits }
 
 parts : (a b : Bool) → a && b ≡ true → (a ≡ true) × (b ≡ true)
 parts true b is = (refl, is)
 parts false b is = absurd (true≢false (sym is))
 
-publication : (n : ℕ) → IsNumber n → is_publication n ≡ true
+publication : (n : ℕ) → IsPublicationNumber n → is_publication_number n ≡ true
 publication n is = rw (le-leb 1 n is.0) (le-leb n 1_000_000 is.1)
 
-pub publication-again : (name : Text) (n : ℕ) (rest : List ℕ) → IsNumber n → publication_behind (number_begin name) (44 ∷ (quoted name ++ 58 ∷ (decimal n ++ 44 ∷ rest))) ≡ Some (n, 44 ∷ rest)
-unfolding publication_behind
+pub publication-again : (name : Text) (n : ℕ) (rest : List ℕ) → IsPublicationNumber n → publication_after_front (number_start name) (44 ∷ (quoted name ++ 58 ∷ (decimal n ++ 44 ∷ rest))) ≡ Some (n, 44 ∷ rest)
+unfolding publication_after_front
 publication-again name n rest is =
-    ap (option_and_then {U = ℕ × List ℕ} (λ read. cond (is_publication read.0) (Some read) None)) (behind-again name n rest (omega arith))
+    ap (option_and_then {U = ℕ × List ℕ} (λ read. cond (is_publication_number read.0) (Some read) None)) (behind-again name n rest (omega arith))
     ∙ ap (λ b. cond b (Some (n, 44 ∷ rest)) None) (publication n is)
 
 pub record PublicationTaken (name : Text) (bytes : List ℕ) (n : ℕ) (rest : List ℕ) : Type 0 where
   pub is : bytes ≡ 44 ∷ (quoted name ++ 58 ∷ (decimal n ++ rest))
-  pub number : IsNumber n
+  pub number : IsPublicationNumber n
 
-pub publication-taken : (name : Text) (bytes : List ℕ) (n : ℕ) (rest : List ℕ) → publication_behind (number_begin name) bytes ≡ Some (n, rest) → PublicationTaken name bytes n rest
-unfolding publication_behind
-publication-taken name bytes n rest is = go (number_behind (number_begin name) bytes) refl is
+pub publication-taken : (name : Text) (bytes : List ℕ) (n : ℕ) (rest : List ℕ) → publication_after_front (number_start name) bytes ≡ Some (n, rest) → PublicationTaken name bytes n rest
+unfolding publication_after_front
+publication-taken name bytes n rest is = go (number_after_front (number_start name) bytes) refl is
   where
-    inner : (read : ℕ × List ℕ) (b : Bool) → number_behind (number_begin name) bytes ≡ Some read → is_publication read.0 ≡ b → cond b (Some read) None ≡ Some (n, rest) → PublicationTaken name bytes n rest
+    inner : (read : ℕ × List ℕ) (b : Bool) → number_after_front (number_start name) bytes ≡ Some read → is_publication_number read.0 ≡ b → cond b (Some read) None ≡ Some (n, rest) → PublicationTaken name bytes n rest
     inner read true behind test same =
         let this : read.0 ≡ n = ap (λ o. unwrap_or (option_map (λ p. p.0) o) n) same in
-        let both = parts (nat_le 1 n) (nat_le n 1_000_000) (ap is_publication (sym this) ∙ test) in
+        let both = parts (nat_le 1 n) (nat_le n 1_000_000) (ap is_publication_number (sym this) ∙ test) in
         record { is = (behind-taken name bytes n rest (behind ∙ same)).is; number = (leb-true 1 n both.0, leb-true n 1_000_000 both.1) }
     inner read false behind test same = absurd (none-some (n, rest) same)
 
-    go : (found : Option (ℕ × List ℕ)) → number_behind (number_begin name) bytes ≡ found
-        → option_and_then {U = ℕ × List ℕ} (λ read. cond (is_publication read.0) (Some read) None) found ≡ Some (n, rest) → PublicationTaken name bytes n rest
+    go : (found : Option (ℕ × List ℕ)) → number_after_front (number_start name) bytes ≡ found
+        → option_and_then {U = ℕ × List ℕ} (λ read. cond (is_publication_number read.0) (Some read) None) found ≡ Some (n, rest) → PublicationTaken name bytes n rest
     go None behind same = absurd (none-some (n, rest) same)
-    go (Some read) behind same = inner read (is_publication read.0) behind refl same
+    go (Some read) behind same = inner read (is_publication_number read.0) behind refl same
 
-records-shape : (rest : List ℕ) → 44 ∷ (quoted (codes "records") ++ 58 ∷ 91 ∷ rest) ≡ records_begin ++ rest
+records-shape : (rest : List ℕ) → 44 ∷ (quoted (codes "records") ++ 58 ∷ 91 ∷ rest) ≡ records_start ++ rest
 records-shape rest = ap (λ l. 44 ∷ l) (sym (append_assoc (quoted (codes "records")) (58 ∷ 91 ∷ []) rest))
 
 pub count-again : (n : ℕ) (rest : List ℕ) → n < 2 ^ 64 → count_from (before_records n rest) ≡ Some (n, rest)
 unfolding count_from
 count-again n rest fits =
-    ap (option_and_then {U = ℕ × List ℕ} (λ read. option_map (λ r. (read.0, r)) (after records_begin read.1))) (behind-again (codes "recordCount") n (quoted (codes "records") ++ 58 ∷ 91 ∷ rest) fits)
-    ∙ ap (λ l. option_map {U = ℕ × List ℕ} (λ r. (n, r)) (after records_begin l)) (records-shape rest) ∙ ap (option_map {U = ℕ × List ℕ} (λ r. (n, r))) (after-again records_begin rest)
+    ap (option_and_then {U = ℕ × List ℕ} (λ read. option_map (λ r. (read.0, r)) (after_front records_start read.1))) (behind-again (codes "recordCount") n (quoted (codes "records") ++ 58 ∷ 91 ∷ rest) fits)
+    ∙ ap (λ l. option_map {U = ℕ × List ℕ} (λ r. (n, r)) (after_front records_start l)) (records-shape rest) ∙ ap (option_map {U = ℕ × List ℕ} (λ r. (n, r))) (after_front-again records_start rest)
 
 pub record CountTaken (bytes : List ℕ) (n : ℕ) (rest : List ℕ) : Type 0 where
   pub is : bytes ≡ before_records n rest
@@ -235,19 +235,19 @@ pub record CountTaken (bytes : List ℕ) (n : ℕ) (rest : List ℕ) : Type 0 wh
 
 pub count-taken : (bytes : List ℕ) (n : ℕ) (rest : List ℕ) → count_from bytes ≡ Some (n, rest) → CountTaken bytes n rest
 unfolding count_from
-count-taken bytes n rest is = go (number_behind (number_begin (codes "recordCount")) bytes) refl is
+count-taken bytes n rest is = go (number_after_front (number_start (codes "recordCount")) bytes) refl is
   where
-    inner : (number : ℕ) (left : List ℕ) (found : Option (List ℕ)) → number_behind (number_begin (codes "recordCount")) bytes ≡ Some (number, left) → after records_begin left ≡ found
+    inner : (number : ℕ) (left : List ℕ) (found : Option (List ℕ)) → number_after_front (number_start (codes "recordCount")) bytes ≡ Some (number, left) → after_front records_start left ≡ found
         → option_map {U = ℕ × List ℕ} (λ r. (number, r)) found ≡ Some (n, rest) → CountTaken bytes n rest
     inner number left None behind front same = absurd (none-some (n, rest) same)
     inner number left (Some r) behind front same =
         let this : number ≡ n = ap (λ o. unwrap_or (option_map (λ p. p.0) o) n) same in
         let is_rest : r ≡ rest = ap (λ o. unwrap_or (option_map (λ p. p.1) o) rest) same in
         let taken = behind-taken (codes "recordCount") bytes n left (behind ∙ ap (λ k. Some (k, left)) this) in
-        let opens : left ≡ 44 ∷ (quoted (codes "records") ++ 58 ∷ 91 ∷ rest) = after-taken records_begin left r front ∙ ap (λ l. records_begin ++ l) is_rest ∙ sym (records-shape rest) in
+        let opens : left ≡ 44 ∷ (quoted (codes "records") ++ 58 ∷ 91 ∷ rest) = after_front-taken records_start left r front ∙ ap (λ l. records_start ++ l) is_rest ∙ sym (records-shape rest) in
         record { is = taken.is ∙ ap (λ l. 44 ∷ (quoted (codes "recordCount") ++ 58 ∷ (decimal n ++ l))) opens; fits = taken.fits }
 
-    go : (found : Option (ℕ × List ℕ)) → number_behind (number_begin (codes "recordCount")) bytes ≡ found
-        → option_and_then {U = ℕ × List ℕ} (λ read. option_map (λ r. (read.0, r)) (after records_begin read.1)) found ≡ Some (n, rest) → CountTaken bytes n rest
+    go : (found : Option (ℕ × List ℕ)) → number_after_front (number_start (codes "recordCount")) bytes ≡ found
+        → option_and_then {U = ℕ × List ℕ} (λ read. option_map (λ r. (read.0, r)) (after_front records_start read.1)) found ≡ Some (n, rest) → CountTaken bytes n rest
     go None behind same = absurd (none-some (n, rest) same)
-    go (Some read) behind same = inner read.0 read.1 (after records_begin read.1) behind refl same
+    go (Some read) behind same = inner read.0 read.1 (after_front records_start read.1) behind refl same

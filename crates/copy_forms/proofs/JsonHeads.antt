@@ -14,7 +14,7 @@ use Rattle.std.proofs.lemmas.Slice.Eq.{bytes_eq-Decides}
 use Rattle.std.proofs.lemmas.List.Sums.{prefix_len_is}
 use Rattle.lei_shapes.specs.Clock.{moment_text}
 use Rattle.lei_shapes.specs.Moment.{read_moment}
-use Rattle.copy_forms.specs.JsonReading.{number_from, number_of, printed_moment}
+use Rattle.copy_forms.specs.JsonReading.{number_from, printed_moment, publication_number_in}
 
 -- ---- numbers
 
@@ -22,8 +22,8 @@ parts : (a b : Bool) → a && b ≡ true → (a ≡ true) × (b ≡ true)
 parts true b is = (refl, is)
 parts false b is = absurd (true≢false (sym is))
 
-pub number-is : (digits : List ℕ) (n : ℕ) → n < 2 ^ 64 → digits ≡ decimal n → number_of digits ≡ Some n
-unfolding number_of
+pub number-is : (digits : List ℕ) (n : ℕ) → n < 2 ^ 64 → digits ≡ decimal n → publication_number_in digits ≡ Some n
+unfolding publication_number_in
 number-is digits n fits is =
     let value : digits_value 10 digits ≡ n = ap (digits_value 10) is ∙ (decimal_is_IsNumeral n fits).1 in
     let same : bytes_eq (decimal n) digits ≡ true = (bytes_eq-Decides (decimal n) digits).1 (sym is) in
@@ -34,8 +34,8 @@ pub record NumberTaken (digits : List ℕ) (n : ℕ) : Type 0 where
   pub is : digits ≡ decimal n
   pub fits : n < 2 ^ 64
 
-pub number-taken : (digits : List ℕ) (n : ℕ) → number_of digits ≡ Some n → NumberTaken digits n
-unfolding number_of
+pub number-taken : (digits : List ℕ) (n : ℕ) → publication_number_in digits ≡ Some n → NumberTaken digits n
+unfolding publication_number_in
 number-taken digits n is = go (nat_lt v (2 ^ 64) && bytes_eq (decimal v) digits) refl is
   where
     v : ℕ
@@ -52,35 +52,35 @@ number-taken digits n is = go (nat_lt v (2 ^ 64) && bytes_eq (decimal v) digits)
         }
     go false tests found = absurd (none-some n found)
 
-pub number-none : (digits : List ℕ) → ((n : ℕ) → n < 2 ^ 64 → digits ≡ decimal n → ⊥) → number_of digits ≡ None
-number-none digits never = go (number_of digits) refl
+pub number-none : (digits : List ℕ) → ((n : ℕ) → n < 2 ^ 64 → digits ≡ decimal n → ⊥) → publication_number_in digits ≡ None
+number-none digits never = go (publication_number_in digits) refl
   where
-    go : (found : Option ℕ) → number_of digits ≡ found → found ≡ None
+    go : (found : Option ℕ) → publication_number_in digits ≡ found → found ≡ None
     go None is = refl
     go (Some n) is = let taken = number-taken digits n is in absurd (never n taken.fits taken.is)
 
-pub no_text : (digits : List ℕ) → (IsUtf8 digits → ⊥) → number_of digits ≡ None
+pub no_text : (digits : List ℕ) → (IsUtf8 digits → ⊥) → publication_number_in digits ≡ None
 no_text digits no_utf8 = number-none digits (λ n fits is. no_utf8 (subst IsUtf8 (sym is) (IsUtf8-from_ascii (decimal n) (IsAscii-decimal n fits))))
 
-pub no_number : {E : Type 0} (digits text : List ℕ) (read : Result ℕ E) (fault : E) → text ≡ digits → ParsesUnsigned 64 10 text read → read ≡ Err fault → number_of digits ≡ None
+pub no_number : {E : Type 0} (digits text : List ℕ) (read : Result ℕ E) (fault : E) → text ≡ digits → ParsesUnsigned 64 10 text read → read ≡ Err fault → publication_number_in digits ≡ None
 no_number digits text read fault same parses is =
     number-none digits (λ n fits written. let found = parse-decimal 64 n text read fits fits (same ∙ written) parses in err_ok n (sym is ∙ found))
   where
     err_ok : (n : ℕ) → Err fault ≡ Ok n → ⊥
     err_ok n both = cc
 
-pub this_number : (digits shown : List ℕ) (number : ℕ) → number < 2 ^ 64 → shown ≡ decimal number → bytes_eq shown digits ≡ true → number_of digits ≡ Some number
+pub this_number : (digits shown : List ℕ) (number : ℕ) → number < 2 ^ 64 → shown ≡ decimal number → bytes_eq shown digits ≡ true → publication_number_in digits ≡ Some number
 this_number digits shown number fits shows same = number-is digits number fits (sym ((bytes_eq-Decides shown digits).0 same) ∙ shows)
 
 pub number-by : (bytes digits rest : List ℕ) (n : ℕ) → n ≤ length bytes → ((k : ℕ) → k < n → is_ascii_digit (get_or bytes k 0) ≡ true)
     → (n < length bytes → is_ascii_digit (get_or bytes n 0) ≡ false) → digits ≡ take n bytes → rest ≡ drop n bytes
-    → number_from bytes ≡ option_map (λ number. (number, rest)) (number_of digits)
+    → number_from bytes ≡ option_map (λ number. (number, rest)) (publication_number_in digits)
 unfolding number_from
 number-by bytes digits rest n fits before stop front behind =
     let count : prefix_len is_ascii_digit bytes ≡ n = prefix_len_is is_ascii_digit bytes n 0 fits before stop in
-    ap (λ k. option_map {U = ℕ × List ℕ} (λ number. (number, drop k bytes)) (number_of (take k bytes))) count
-    ∙ ap (λ r. option_map {U = ℕ × List ℕ} (λ number. (number, r)) (number_of (take n bytes))) (sym behind)
-    ∙ ap (λ d. option_map {U = ℕ × List ℕ} (λ number. (number, rest)) (number_of d)) (sym front)
+    ap (λ k. option_map {U = ℕ × List ℕ} (λ number. (number, drop k bytes)) (publication_number_in (take k bytes))) count
+    ∙ ap (λ r. option_map {U = ℕ × List ℕ} (λ number. (number, r)) (publication_number_in (take n bytes))) (sym behind)
+    ∙ ap (λ d. option_map {U = ℕ × List ℕ} (λ number. (number, rest)) (publication_number_in d)) (sym front)
 
 -- ---- moments
 
@@ -117,7 +117,7 @@ moment-no_text text never = go (is_utf8 text) refl
 -- ---- reading numbers
 
 pub other_number : {E : Type 0} (digits text shown : List ℕ) (read : Result ℕ E) (number : ℕ) → text ≡ digits → ParsesUnsigned 64 10 text read → read ≡ Ok number → shown ≡ decimal number
-    → bytes_eq shown digits ≡ false → number_of digits ≡ None
+    → bytes_eq shown digits ≡ false → publication_number_in digits ≡ None
 other_number digits text shown read number same parses is shows differs = number-none digits apart
   where
     found : (n : ℕ) → n < 2 ^ 64 → digits ≡ decimal n → read ≡ Ok n

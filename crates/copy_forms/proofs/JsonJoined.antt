@@ -6,7 +6,7 @@ use Rattle.copy_csv.specs.declared.heads.Head.{Head}
 use Rattle.copy_csv.specs.declared.rows.Change.{Change}
 use Rattle.copy_csv.specs.declared.rows.RowTexts.{RowTexts}
 use Rattle.copy_csv.specs.declared.rows.TextChange.{TextChange}
-use Rattle.copy_forms.specs.Files.{rendered, rendered_change}
+use Rattle.copy_forms.specs.Files.{rendered_change, row_renderings}
 use Rattle.copy_forms.specs.Json.{json_copy, json_delta, json_record}
 use Rattle.copy_csv.specs.Csv.{rendered_in}
 use Rattle.copy_forms.specs.JsonTexts.{before_copy, before_delta, records_text, rendered_record, text_change_record}
@@ -15,15 +15,15 @@ use Rattle.copy_forms.proofs.JsonCopies.{copy-text}
 use Rattle.copy_forms.proofs.JsonDeltas.{delta-text, json_change}
 use Rattle.copy_forms.proofs.JsonItems.{end-is}
 
-records-of : (rows : List SheetRow) → map (λ (texts : RowTexts). texts.json) (map rendered rows) ≡ map json_record rows
+records-of : (rows : List SheetRow) → map (λ (texts : RowTexts). texts.json) (map row_renderings rows) ≡ map json_record rows
 records-of [] = refl
 records-of (row ∷ rows) = ap (λ l. json_record row ∷ l) (records-of rows)
 
-pub copy-joined : (head : Head) (texts : List RowTexts) (rows : List SheetRow) → texts ≡ map rendered rows
+pub copy-joined : (head : Head) (texts : List RowTexts) (rows : List SheetRow) → texts ≡ map row_renderings rows
     → before_copy head (length texts) (records_text false (map (λ (t : RowTexts). t.json) texts) ++ 125 ∷ []) ≡ json_copy head rows
 copy-joined head texts rows is =
     ap (λ l. before_copy head (length l) (records_text false (map (λ (t : RowTexts). t.json) l) ++ 125 ∷ [])) is
-    ∙ ap (λ n. before_copy head n (records_text false (map (λ (t : RowTexts). t.json) (map rendered rows)) ++ 125 ∷ [])) (length-map rows rendered)
+    ∙ ap (λ n. before_copy head n (records_text false (map (λ (t : RowTexts). t.json) (map row_renderings rows)) ++ 125 ∷ [])) (length-map rows row_renderings)
     ∙ ap (λ l. before_copy head (length rows) (records_text false l ++ 125 ∷ [])) (records-of rows)
     ∙ ap (before_copy head (length rows)) (sym (end-is false (map json_record rows))) ∙ sym (copy-text head rows)
 

@@ -74,10 +74,10 @@ rank-within sheet k within =
 -- ---- tokens
 
 -- the tokens of these fields, and the brace that closes their object
-pub object_end : List form.Field → List Token
+pub object_end : List form.JsonField → List Token
 object_end fields = flat_map field_tokens fields ++ end_object ∷ []
 
-print-fields : (later : Bool) (fields : List form.Field) → print_from later (object_end fields) ≡ members_text later (members_of fields)
+print-fields : (later : Bool) (fields : List form.JsonField) → print_from later (object_end fields) ≡ members_text later (members_of fields)
 unfolding print_from object_end
 print-fields true [] = refl
 print-fields false [] = refl
@@ -108,7 +108,7 @@ pub tokens-more : (row : SheetRow) (tokens more all : List Token) (k place : ℕ
     → place ≡ get_or (json_places row.sheet) k 0 → more ≡ tokens ++ field_tokens (field_at row place) → more ++ object_end (drop (k + 1) (json_fields row)) ≡ all
 unfolding object_end
 tokens-more row tokens more all k place so_far within here is =
-    let nothing : form.Field = field_at row 0 in
+    let nothing : form.JsonField = field_at row 0 in
     let step : drop k (json_fields row) ≡ get_or (json_fields row) k nothing ∷ drop (k + 1) (json_fields row) =
     drop_more (json_fields row) k nothing (omega (arith, length-map (json_places row.sheet) (field_at row))) in
     let field : get_or (json_fields row) k nothing ≡ field_at row place = get_or-map (field_at row) (json_places row.sheet) k 0 ∙ ap (field_at row) (sym here) in

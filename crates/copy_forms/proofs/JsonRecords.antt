@@ -8,11 +8,11 @@ use Rattle.lei_code.specs.Texts.{Text}
 use Rattle.lei_records.specs.Fields.{exception_fields, fields, relation_fields}
 use Rattle.lei_records.specs.Rows.{text_at}
 use Rattle.register_words.specs.declared.sheets.Sheet.{Sheet}
-use Rattle.copy_csv.specs.Sheets.{IsRow, SheetRow, names, row_of, width}
+use Rattle.copy_csv.specs.Sheets.{IsSheetRow, SheetRow, column_names, row_of_texts, width}
 use Rattle.copy_forms.specs.Json.{json_fields, json_names, json_places, json_record}
-use Rattle.copy_forms.specs.JsonTexts.{fields_text}
-use Rattle.copy_forms.specs.JsonReading.{after, fields_from, json_ranks, placed, record_from}
-use Rattle.copy_forms.proofs.JsonStrings.{after-taken}
+use Rattle.copy_forms.specs.JsonTexts.{json_fields_text}
+use Rattle.copy_forms.specs.JsonReading.{after_front, fields_from, json_ranks, record_from, row_by_names}
+use Rattle.copy_forms.proofs.JsonStrings.{after_front-taken}
 use Rattle.copy_forms.proofs.JsonFields.{FieldsTaken, are_apart, fields-again, fields-taken, fields-text, is_apart, utf8-nil}
 
 -- ---- the text
@@ -25,18 +25,18 @@ zip-map f g (place ∷ places) = ap (λ fields. (f place, g place) ∷ fields) (
 abbrev pub in_json_order : SheetRow → List Text
 in_json_order row = map (text_at row.texts) (json_places row.sheet)
 
-pub record-text : (row : SheetRow) → json_record row ≡ 123 ∷ fields_text false (zip (json_names row.sheet) (in_json_order row))
+pub record-text : (row : SheetRow) → json_record row ≡ 123 ∷ json_fields_text false (zip (json_names row.sheet) (in_json_order row))
 unfolding json_record
 record-text row =
-    ap (λ l. 123 ∷ l) (fields-text false (json_fields row) ∙ ap (fields_text false) (zip-map (text_at (names row.sheet)) (text_at row.texts) (json_places row.sheet)))
+    ap (λ l. 123 ∷ l) (fields-text false (json_fields row) ∙ ap (json_fields_text false) (zip-map (text_at (column_names row.sheet)) (text_at row.texts) (json_places row.sheet)))
 
 -- ---- names and places
 
-pub names-apart : (sheet : Sheet) → are_apart (json_names sheet) ≡ true
+pub column_names-apart : (sheet : Sheet) → are_apart (json_names sheet) ≡ true
 unfolding are_apart is_apart fields relation_fields exception_fields
-names-apart Sheet.Lei = refl
-names-apart Sheet.Rr = refl
-names-apart Sheet.Repex = refl
+column_names-apart Sheet.Lei = refl
+column_names-apart Sheet.Rr = refl
+column_names-apart Sheet.Repex = refl
 
 pub length-names : (sheet : Sheet) → length (json_names sheet) ≡ width sheet
 unfolding fields relation_fields exception_fields
@@ -123,56 +123,56 @@ utf8-map texts (place ∷ places) all = rw (utf8-at texts place all) (utf8-map t
 
 -- ---- the record is read back
 
-pub placed-again : (row : SheetRow) → IsRow row → placed row.sheet (in_json_order row) ≡ row
-unfolding placed
-placed-again row is = ap (row_of row.sheet) (back row.sheet row.texts ∙ all_places row.texts (width row.sheet) is.full)
+pub row_by_names-again : (row : SheetRow) → IsSheetRow row → row_by_names row.sheet (in_json_order row) ≡ row
+unfolding row_by_names
+row_by_names-again row is = ap (row_of_texts row.sheet) (back row.sheet row.texts ∙ all_places row.texts (width row.sheet) is.full)
 
-pub record-again : (row : SheetRow) (rest : List ℕ) → IsRow row → record_from row.sheet (json_record row ++ rest) ≡ Some (row, rest)
+pub record-again : (row : SheetRow) (rest : List ℕ) → IsSheetRow row → record_from row.sheet (json_record row ++ rest) ≡ Some (row, rest)
 unfolding record_from
 record-again row rest is =
     let texts = in_json_order row in
     let long : length texts ≡ length (json_names row.sheet) = length-map (json_places row.sheet) (text_at row.texts) ∙ length-places row.sheet ∙ sym (length-names row.sheet) in
-    let reads = fields-again (json_names row.sheet) texts false rest (names-apart row.sheet) long (utf8-map row.texts (json_places row.sheet) is.utf8) in
-    ap (λ l. option_and_then (λ r. option_map (λ read. (placed row.sheet read.0, read.1)) (fields_from (json_names row.sheet) false r)) (after (123 ∷ []) (l ++ rest))) (record-text row)
-    ∙ ap (option_map (λ read. (placed row.sheet read.0, read.1))) reads
-    ∙ ap (λ r. Some (r, rest)) (placed-again row is)
+    let reads = fields-again (json_names row.sheet) texts false rest (column_names-apart row.sheet) long (utf8-map row.texts (json_places row.sheet) is.utf8) in
+    ap (λ l. option_and_then (λ r. option_map (λ read. (row_by_names row.sheet read.0, read.1)) (fields_from (json_names row.sheet) false r)) (after_front (123 ∷ []) (l ++ rest))) (record-text row)
+    ∙ ap (option_map (λ read. (row_by_names row.sheet read.0, read.1))) reads
+    ∙ ap (λ r. Some (r, rest)) (row_by_names-again row is)
 
 pub record RecordTaken (sheet : Sheet) (bytes : List ℕ) (row : SheetRow) (rest : List ℕ) : Type 0 where
   pub is : bytes ≡ json_record row ++ rest
-  pub holds : IsRow row
+  pub holds : IsSheetRow row
   pub belongs : row.sheet ≡ sheet
 
-placed-taken : (sheet : Sheet) (bytes : List ℕ) (texts : List Text) (rest : List ℕ) → FieldsTaken (json_names sheet) false bytes texts rest
-    → RecordTaken sheet (123 ∷ bytes) (placed sheet texts) rest
-unfolding placed
-placed-taken sheet bytes texts rest taken =
+row_by_names-taken : (sheet : Sheet) (bytes : List ℕ) (texts : List Text) (rest : List ℕ) → FieldsTaken (json_names sheet) false bytes texts rest
+    → RecordTaken sheet (123 ∷ bytes) (row_by_names sheet texts) rest
+unfolding row_by_names
+row_by_names-taken sheet bytes texts rest taken =
     let long : length texts ≡ width sheet = taken.long ∙ length-names sheet in
-    let row = row_of sheet (map (text_at texts) (json_ranks sheet)) in
+    let row = row_of_texts sheet (map (text_at texts) (json_ranks sheet)) in
     let order : in_json_order row ≡ texts = there sheet texts ∙ all_places texts (width sheet) long in
     record {
-      is = ap (λ l. 123 ∷ l) taken.is ∙ ap (λ t. 123 ∷ (fields_text false (zip (json_names sheet) t) ++ rest)) (sym order) ∙ ap (λ l. l ++ rest) (sym (record-text row));
+      is = ap (λ l. 123 ∷ l) taken.is ∙ ap (λ t. 123 ∷ (json_fields_text false (zip (json_names sheet) t) ++ rest)) (sym order) ∙ ap (λ l. l ++ rest) (sym (record-text row));
       holds = record { full = length-map (json_ranks sheet) (text_at texts) ∙ length-ranks sheet; utf8 = utf8-map texts (json_ranks sheet) taken.utf8 };
       belongs = refl;
     }
 
 pub record-taken : (sheet : Sheet) (bytes : List ℕ) (row : SheetRow) (rest : List ℕ) → record_from sheet bytes ≡ Some (row, rest) → RecordTaken sheet bytes row rest
 unfolding record_from
-record-taken sheet bytes row rest is = go (after (123 ∷ []) bytes) refl is
+record-taken sheet bytes row rest is = go (after_front (123 ∷ []) bytes) refl is
   where
-    inner : (behind : List ℕ) (found : Option (List Text × List ℕ)) → after (123 ∷ []) bytes ≡ Some behind → fields_from (json_names sheet) false behind ≡ found
-        → option_map {U = SheetRow × List ℕ} (λ read. (placed sheet read.0, read.1)) found ≡ Some (row, rest) → RecordTaken sheet bytes row rest
+    inner : (behind : List ℕ) (found : Option (List Text × List ℕ)) → after_front (123 ∷ []) bytes ≡ Some behind → fields_from (json_names sheet) false behind ≡ found
+        → option_map {U = SheetRow × List ℕ} (λ read. (row_by_names sheet read.0, read.1)) found ≡ Some (row, rest) → RecordTaken sheet bytes row rest
     inner behind None front fields same = cc
     inner behind (Some read) front fields same =
-        let taken = placed-taken sheet behind read.0 read.1 (fields-taken (json_names sheet) false behind read.0 read.1 fields) in
-        let is_row : placed sheet read.0 ≡ row = ap (λ o. unwrap_or (option_map (λ p. p.0) o) row) same in
+        let taken = row_by_names-taken sheet behind read.0 read.1 (fields-taken (json_names sheet) false behind read.0 read.1 fields) in
+        let is_row : row_by_names sheet read.0 ≡ row = ap (λ o. unwrap_or (option_map (λ p. p.0) o) row) same in
         let is_rest : read.1 ≡ rest = ap (λ o. unwrap_or (option_map (λ p. p.1) o) rest) same in
         let P : List ℕ → Type 0 = λ b. RecordTaken sheet b row rest in
         let Q : List ℕ → Type 0 = λ r. RecordTaken sheet (123 ∷ behind) row r in
         let R : SheetRow → Type 0 = λ r. RecordTaken sheet (123 ∷ behind) r read.1 in
-        subst P (sym (after-taken (123 ∷ []) bytes behind front)) (subst Q is_rest (subst R is_row taken))
+        subst P (sym (after_front-taken (123 ∷ []) bytes behind front)) (subst Q is_rest (subst R is_row taken))
 
-    go : (found : Option (List ℕ)) → after (123 ∷ []) bytes ≡ found
-        → option_and_then {U = SheetRow × List ℕ} (λ r. option_map (λ read. (placed sheet read.0, read.1)) (fields_from (json_names sheet) false r)) found ≡ Some (row, rest)
+    go : (found : Option (List ℕ)) → after_front (123 ∷ []) bytes ≡ found
+        → option_and_then {U = SheetRow × List ℕ} (λ r. option_map (λ read. (row_by_names sheet read.0, read.1)) (fields_from (json_names sheet) false r)) found ≡ Some (row, rest)
         → RecordTaken sheet bytes row rest
     go None front same = cc
     go (Some behind) front same = inner behind (fields_from (json_names sheet) false behind) front refl same

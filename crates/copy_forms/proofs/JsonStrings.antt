@@ -12,23 +12,23 @@ use lib.Utf8.{encode}
 use Rattle.json.specs.Print.{escape, escape_byte}
 use Rattle.json.specs.Text.{content, plain, prepend, code_unit, short_escape}
 use Rattle.json.proofs.Printed.Strings.{content-escape, escape_byte_plain}
-use Rattle.copy_forms.specs.JsonReading.{after, escaped, escapes, is_escaped, read_escape, string_from, HasNoEscape}
+use Rattle.copy_forms.specs.JsonReading.{after_front, must_escape, escapes, is_escaped, read_escape, string_from, HasNoEscape}
 
 -- ---- prefixes
 
-pub after-again : (front rest : List ℕ) → after front (front ++ rest) ≡ Some rest
-after-again [] rest = refl
-after-again (x ∷ front) rest = rw (same x) (after-again front rest)
+pub after_front-again : (front rest : List ℕ) → after_front front (front ++ rest) ≡ Some rest
+after_front-again [] rest = refl
+after_front-again (x ∷ front) rest = rw (same x) (after_front-again front rest)
   where
     same : (x : ℕ) → (x == x) ≡ true
     same x = grind arith
 
-pub after-taken : (front bytes rest : List ℕ) → after front bytes ≡ Some rest → bytes ≡ front ++ rest
-after-taken [] bytes rest is = cc
-after-taken (x ∷ front) [] rest is = cc
-after-taken (x ∷ front) (y ∷ bytes) rest is = go (y == x) refl is (after-taken front bytes rest)
+pub after_front-taken : (front bytes rest : List ℕ) → after_front front bytes ≡ Some rest → bytes ≡ front ++ rest
+after_front-taken [] bytes rest is = cc
+after_front-taken (x ∷ front) [] rest is = cc
+after_front-taken (x ∷ front) (y ∷ bytes) rest is = go (y == x) refl is (after_front-taken front bytes rest)
   where
-    go : (b : Bool) → (y == x) ≡ b → cond b (after front bytes) None ≡ Some rest → (after front bytes ≡ Some rest → bytes ≡ front ++ rest)
+    go : (b : Bool) → (y == x) ≡ b → cond b (after_front front bytes) None ≡ Some rest → (after_front front bytes ≡ Some rest → bytes ≡ front ++ rest)
         → (y ∷ bytes) ≡ (x ∷ front) ++ rest
     go true test found behind =
         let same : y ≡ x = eqb-true y x test in
@@ -36,28 +36,28 @@ after-taken (x ∷ front) (y ∷ bytes) rest is = go (y == x) refl is (after-tak
         cc
     go false test found behind = cc
 
-pub after-shift : (common front rest : List ℕ) → after (common ++ front) (common ++ rest) ≡ after front rest
-after-shift [] front rest = refl
-after-shift (x ∷ common) front rest = rw (same x) (after-shift common front rest)
+pub after_front-shift : (common front rest : List ℕ) → after_front (common ++ front) (common ++ rest) ≡ after_front front rest
+after_front-shift [] front rest = refl
+after_front-shift (x ∷ common) front rest = rw (same x) (after_front-shift common front rest)
   where
     same : (x : ℕ) → (x == x) ≡ true
     same x = grind arith
 
 -- the comparison with a prefix says whether the bytes start with it
-pub after-found : (front bytes rest : List ℕ) → pointwise ◌==◌ (take (length front) bytes) front ≡ true → rest ≡ drop (length front) bytes
-    → after front bytes ≡ Some rest
-after-found front bytes rest test is =
+pub after_front-found : (front bytes rest : List ℕ) → pointwise ◌==◌ (take (length front) bytes) front ≡ true → rest ≡ drop (length front) bytes
+    → after_front front bytes ≡ Some rest
+after_front-found front bytes rest test is =
     let same : take (length front) bytes ≡ front = (bytes_eq-Decides (take (length front) bytes) front).0 test in
     let whole : bytes ≡ front ++ rest = sym (take-append-drop (length front) bytes) ∙ ap (λ t. t ++ drop (length front) bytes) same ∙ ap (λ t. front ++ t) (sym is) in
-    ap (after front) whole ∙ after-again front rest
+    ap (after_front front) whole ∙ after_front-again front rest
 
-pub after-missed : (front bytes : List ℕ) → pointwise ◌==◌ (take (length front) bytes) front ≡ false → after front bytes ≡ None
-after-missed front bytes test = go (after front bytes) refl
+pub after_front-missed : (front bytes : List ℕ) → pointwise ◌==◌ (take (length front) bytes) front ≡ false → after_front front bytes ≡ None
+after_front-missed front bytes test = go (after_front front bytes) refl
   where
-    go : (found : Option (List ℕ)) → after front bytes ≡ found → found ≡ None
+    go : (found : Option (List ℕ)) → after_front front bytes ≡ found → found ≡ None
     go None is = refl
     go (Some rest) is =
-        let whole : bytes ≡ front ++ rest = after-taken front bytes rest is in
+        let whole : bytes ≡ front ++ rest = after_front-taken front bytes rest is in
         let same : take (length front) bytes ≡ front = ap (take (length front)) whole ∙ take-append_seam front rest in
         let passes : pointwise ◌==◌ (take (length front) bytes) front ≡ true = (bytes_eq-Decides (take (length front) bytes) front).1 same in
         absurd (true≢false (sym passes ∙ test))
@@ -114,25 +114,25 @@ pub string-again : (text rest : List ℕ) → string_from (escape text ++ 34 ∷
 unfolding string_from
 string-again text rest =
     let whole : (escape text ++ 34 ∷ []) ++ rest ≡ escape text ++ 34 ∷ rest = append_assoc (escape text) (34 ∷ []) rest in
-    let behind : after (escape text ++ 34 ∷ []) (escape text ++ 34 ∷ rest) ≡ Some rest = ap (after (escape text ++ 34 ∷ [])) (sym whole) ∙ after-again (escape text ++ 34 ∷ []) rest in
-    ap (option_and_then (λ t. option_map (λ r. (t, r)) (after (escape t ++ 34 ∷ []) (escape text ++ 34 ∷ rest)))) (content-escape text rest)
+    let behind : after_front (escape text ++ 34 ∷ []) (escape text ++ 34 ∷ rest) ≡ Some rest = ap (after_front (escape text ++ 34 ∷ [])) (sym whole) ∙ after_front-again (escape text ++ 34 ∷ []) rest in
+    ap (option_and_then (λ t. option_map (λ r. (t, r)) (after_front (escape t ++ 34 ∷ []) (escape text ++ 34 ∷ rest)))) (content-escape text rest)
     ∙ ap (option_map (λ r. (text, r))) behind
 
 pub string-taken : (bytes text rest : List ℕ) → string_from bytes ≡ Some (text, rest) → bytes ≡ escape text ++ 34 ∷ rest
 unfolding string_from
 string-taken bytes text rest is = go (content plain bytes) is
   where
-    behind : (found : List ℕ) (left : Option (List ℕ)) → after (escape found ++ 34 ∷ []) bytes ≡ left → option_map {U = List ℕ × List ℕ} (λ r. (found, r)) left ≡ Some (text, rest) → bytes ≡ escape text ++ 34 ∷ rest
+    behind : (found : List ℕ) (left : Option (List ℕ)) → after_front (escape found ++ 34 ∷ []) bytes ≡ left → option_map {U = List ℕ × List ℕ} (λ r. (found, r)) left ≡ Some (text, rest) → bytes ≡ escape text ++ 34 ∷ rest
     behind found None front same = cc
     behind found (Some left) front same =
         let is_text : found ≡ text = ap (λ read. unwrap_or (option_map (λ p. p.0) read) found) same in
         let is_rest : left ≡ rest = ap (λ read. unwrap_or (option_map (λ p. p.1) read) left) same in
-        let taken = after-taken (escape found ++ 34 ∷ []) bytes left front in
+        let taken = after_front-taken (escape found ++ 34 ∷ []) bytes left front in
         taken ∙ append_assoc (escape found) (34 ∷ []) left ∙ ap (λ t. escape t ++ 34 ∷ left) is_text ∙ ap (λ r. escape text ++ 34 ∷ r) is_rest
 
-    go : (found : Option (List ℕ)) → option_and_then {U = List ℕ × List ℕ} (λ t. option_map (λ r. (t, r)) (after (escape t ++ 34 ∷ []) bytes)) found ≡ Some (text, rest) → bytes ≡ escape text ++ 34 ∷ rest
+    go : (found : Option (List ℕ)) → option_and_then {U = List ℕ × List ℕ} (λ t. option_map (λ r. (t, r)) (after_front (escape t ++ 34 ∷ []) bytes)) found ≡ Some (text, rest) → bytes ≡ escape text ++ 34 ∷ rest
     go None same = cc
-    go (Some found) same = behind found (after (escape found ++ 34 ∷ []) bytes) refl same
+    go (Some found) same = behind found (after_front (escape found ++ 34 ∷ []) bytes) refl same
 
 -- what was read, preceded by a text
 abbrev pub with_text : List ℕ → Option (List ℕ × List ℕ) → Option (List ℕ × List ℕ)
@@ -141,20 +141,20 @@ with_text text found = option_map (λ read. (text ++ read.0, read.1)) found
 pub string-front : (byte : ℕ) (rest : List ℕ) → string_from (escape_byte byte ++ rest) ≡ with_text (byte ∷ []) (string_from rest)
 unfolding string_from
 string-front byte rest =
-    ap (option_and_then (λ t. option_map (λ r. (t, r)) (after (escape t ++ 34 ∷ []) (escape_byte byte ++ rest)))) ((passes byte).read rest)
+    ap (option_and_then (λ t. option_map (λ r. (t, r)) (after_front (escape t ++ 34 ∷ []) (escape_byte byte ++ rest)))) ((passes byte).read rest)
     ∙ go (content plain rest)
   where
     moved : (text : List ℕ) (left : Option (List ℕ)) → option_map (λ r. (byte ∷ text, r)) left ≡ with_text (byte ∷ []) (option_map (λ r. (text, r)) left)
     moved text None = refl
     moved text (Some left) = refl
 
-    go : (found : Option (List ℕ)) → option_and_then (λ t. option_map (λ r. (t, r)) (after (escape t ++ 34 ∷ []) (escape_byte byte ++ rest))) (prepend (byte ∷ []) found)
-        ≡ with_text (byte ∷ []) (option_and_then (λ t. option_map (λ r. (t, r)) (after (escape t ++ 34 ∷ []) rest)) found)
+    go : (found : Option (List ℕ)) → option_and_then (λ t. option_map (λ r. (t, r)) (after_front (escape t ++ 34 ∷ []) (escape_byte byte ++ rest))) (prepend (byte ∷ []) found)
+        ≡ with_text (byte ∷ []) (option_and_then (λ t. option_map (λ r. (t, r)) (after_front (escape t ++ 34 ∷ []) rest)) found)
     go None = refl
     go (Some text) =
-        ap (λ front. option_map (λ r. (byte ∷ text, r)) (after front (escape_byte byte ++ rest))) (append_assoc (escape_byte byte) (escape text) (34 ∷ []))
-        ∙ ap (option_map (λ r. (byte ∷ text, r))) (after-shift (escape_byte byte) (escape text ++ 34 ∷ []) rest)
-        ∙ moved text (after (escape text ++ 34 ∷ []) rest)
+        ap (λ front. option_map (λ r. (byte ∷ text, r)) (after_front front (escape_byte byte ++ rest))) (append_assoc (escape_byte byte) (escape text) (34 ∷ []))
+        ∙ ap (option_map (λ r. (byte ∷ text, r))) (after_front-shift (escape_byte byte) (escape text ++ 34 ∷ []) rest)
+        ∙ moved text (after_front (escape text ++ 34 ∷ []) rest)
 
 -- ---- the escapes
 
@@ -176,7 +176,7 @@ below-each (suc n) test all k less = go (cases_eq k n) (below-each n test (and_p
     go (inr other) lower = lower (omega arith)
 
 -- each escape has at least one byte
-all_long : below 34 (λ place. nat_lt 0 (length (escape_byte (get_or escaped place 0)))) ≡ true
+all_long : below 34 (λ place. nat_lt 0 (length (escape_byte (get_or must_escape place 0)))) ≡ true
 unfolding below escape_byte
 all_long = refl
 
@@ -184,9 +184,9 @@ all_long = refl
 record Place (byte : ℕ) : Type 0 where
   place : ℕ
   within : place < 34
-  is : get_or escaped place 0 ≡ byte
+  is : get_or must_escape place 0 ≡ byte
 
-control_places : below 32 (λ byte. get_or escaped (byte + 2) 0 == byte) ≡ true
+control_places : below 32 (λ byte. get_or must_escape (byte + 2) 0 == byte) ≡ true
 unfolding below
 control_places = refl
 
@@ -200,17 +200,17 @@ place_of byte is = go (cases_eq byte 34) (cases_eq byte 92) (cases_lt byte 32)
         record { place = byte + 2; within = omega arith; is = eqb-true _ _ (below-each 32 _ control_places byte control) }
     go (inr a) (inr b) (inr above) = let none : is_escaped byte ≡ false = rw (ne_eqb byte 34 a, ne_eqb byte 92 b, le-ltb byte 32 above) in absurd (true≢false (sym is ∙ none))
 
-pub escape_at : (place : ℕ) → place < 34 → get_or escapes place (0, []) ≡ (get_or escaped place 0, escape_byte (get_or escaped place 0))
+pub escape_at : (place : ℕ) → place < 34 → get_or escapes place (0, []) ≡ (get_or must_escape place 0, escape_byte (get_or must_escape place 0))
 unfolding escapes
-escape_at place within = get_or-map (λ byte. (byte, escape_byte byte)) escaped place 0 (0, []) within
+escape_at place within = get_or-map (λ byte. (byte, escape_byte byte)) must_escape place 0 (0, []) within
 
-pub no_escape : (bytes : List ℕ) → ((k : ℕ) → k < 34 → after (get_or escapes k (0, [])).1 bytes ≡ None) → HasNoEscape bytes
+pub no_escape : (bytes : List ℕ) → ((k : ℕ) → k < 34 → after_front (get_or escapes k (0, [])).1 bytes ≡ None) → HasNoEscape bytes
 no_escape bytes missed =
     record {
       each = λ byte escapes_it.
           let at = place_of byte escapes_it in
           let entry = escape_at at.place at.within in
-          ap (λ b. after (escape_byte b) bytes) (sym at.is) ∙ ap (λ e. after e.1 bytes) (sym entry) ∙ missed at.place at.within;
+          ap (λ b. after_front (escape_byte b) bytes) (sym at.is) ∙ ap (λ e. after_front e.1 bytes) (sym entry) ∙ missed at.place at.within;
     }
 
 length-escapes : length escapes ≡ 34
@@ -269,9 +269,9 @@ string-plain text front stop rest n all is fits each is_front behind =
     ∙ sym (with_text-append text (take n rest) (string_from (drop n rest))) ∙ ap (with_text text) (sym (string-run n rest fits each)) ∙ is
 
 -- the closing quote ends the text
-pub string-end : (text stop behind : List ℕ) (all : Option (List ℕ × List ℕ)) → with_text text (string_from stop) ≡ all → after (34 ∷ []) stop ≡ Some behind → all ≡ Some (text, behind)
+pub string-end : (text stop behind : List ℕ) (all : Option (List ℕ × List ℕ)) → with_text text (string_from stop) ≡ all → after_front (34 ∷ []) stop ≡ Some behind → all ≡ Some (text, behind)
 string-end text stop behind all is quote =
-    sym is ∙ ap (λ l. with_text text (string_from l)) (after-taken (34 ∷ []) stop behind quote) ∙ ap (with_text text) (string-again [] behind)
+    sym is ∙ ap (λ l. with_text text (string_from l)) (after_front-taken (34 ∷ []) stop behind quote) ∙ ap (with_text text) (string-again [] behind)
     ∙ ap (λ t. Some (t, behind)) (append-nil text)
 
 -- an escape gives its byte
@@ -286,8 +286,8 @@ escape-long byte = go (is_escaped byte) refl
     go : (b : Bool) → is_escaped byte ≡ b → 0 < length (escape_byte byte)
     go true is = let at = place_of byte is in subst (λ b. 0 < length (escape_byte b)) at.is (long at.place at.within)
       where
-        long : (place : ℕ) → place < 34 → 0 < length (escape_byte (get_or escaped place 0))
-        long place within = ltb-true 0 _ (below-each 34 (λ k. nat_lt 0 (length (escape_byte (get_or escaped k 0)))) all_long place within)
+        long : (place : ℕ) → place < 34 → 0 < length (escape_byte (get_or must_escape place 0))
+        long place within = ltb-true 0 _ (below-each 34 (λ k. nat_lt 0 (length (escape_byte (get_or must_escape k 0)))) all_long place within)
     go false is = subst (λ l. 0 < length l) (sym (plain_byte byte is)) (omega arith)
 
 -- and consumes bytes
@@ -300,7 +300,7 @@ string-shorter stop behind rest byte n is front =
 
 -- if neither comes next, no string was printed here
 pub string-none : (text stop rest : List ℕ) (n : ℕ) (all : Option (List ℕ × List ℕ)) → with_text text (string_from stop) ≡ all → n ≤ length rest → stop ≡ drop n rest
-    → (n < length rest → is_escaped (get_or rest n 0) ≡ true) → None ≡ after (34 ∷ []) stop → HasNoEscape stop → all ≡ None
+    → (n < length rest → is_escaped (get_or rest n 0) ≡ true) → None ≡ after_front (34 ∷ []) stop → HasNoEscape stop → all ≡ None
 string-none text stop rest n all is fits behind escaped_next quote none = sym is ∙ ap (with_text text) (go (string_from stop) refl)
   where
     longer : (x : ℕ) (xs : List ℕ) → stop ≡ x ∷ xs → (n < length rest) × (get_or rest n 0 ≡ x)
@@ -314,14 +314,14 @@ string-none text stop rest n all is fits behind escaped_next quote none = sym is
 
     front : (x : ℕ) (b : Bool) (others : List ℕ) → is_escaped x ≡ b → stop ≡ escape_byte x ++ others → ⊥
     front x true others escapes_it begins =
-        let gone : None ≡ Some others = sym (none.each x escapes_it) ∙ ap (after (escape_byte x)) begins ∙ after-again (escape_byte x) others in
+        let gone : None ≡ Some others = sym (none.each x escapes_it) ∙ ap (after_front (escape_byte x)) begins ∙ after_front-again (escape_byte x) others in
         cc
     front x false others plain_it begins =
         let head = longer x others (begins ∙ ap (λ l. l ++ others) (plain_byte x plain_it)) in
         absurd (true≢false (sym (escaped_next head.0) ∙ ap is_escaped head.1 ∙ plain_it))
 
     whole : (found left : List ℕ) → stop ≡ escape found ++ 34 ∷ left → ⊥
-    whole [] left begins = let gone : None ≡ Some left = quote ∙ ap (after (34 ∷ [])) begins in cc
+    whole [] left begins = let gone : None ≡ Some left = quote ∙ ap (after_front (34 ∷ [])) begins in cc
     whole (x ∷ found) left begins = front x (is_escaped x) (escape found ++ 34 ∷ left) refl (begins ∙ append_assoc (escape_byte x) (escape found) (34 ∷ left))
 
     go : (found : Option (List ℕ × List ℕ)) → string_from stop ≡ found → found ≡ None

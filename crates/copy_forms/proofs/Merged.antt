@@ -11,12 +11,12 @@ use Rattle.std.proofs.lemmas.List.Elements.{All-cons, All-head, All-nil, All-tai
 use Rattle.lei_records.specs.Tables.{KeyTexts, key_cmp}
 use Rattle.register_words.specs.declared.sheets.Sheet.{Sheet}
 use Rattle.copy_csv.specs.declared.rows.Change.{Change}
-use Rattle.copy_csv.specs.Rows.{AreChanges, AreRising, AreRows, IsChangeOf, IsRowOf, changed_key}
+use Rattle.copy_csv.specs.Rows.{AreChanges, AreRows, IsChangeOf, IsRowOfSheet, KeysRise, changed_key}
 use Rattle.copy_csv.specs.Sheets.{SheetRow, key}
 use Rattle.copy_csv.proofs.RowLemmas.{key_total}
-use Rattle.copy_forms.specs.Patching.{Keyed, all_changed, changed, keyed, patched}
+use Rattle.copy_forms.specs.Patching.{Keyed, after_change, all_changed, patched, rows_by_key}
 use Rattle.copy_forms.proofs.TrailLemmas.{key_same, tied, under, values_keyed}
-use Rattle.copy_forms.specs.Merging.{merged, placed, put_by}
+use Rattle.copy_forms.specs.Merging.{put_by, row_among_changes, rows_with_changes}
 
 -- ---- keys that rise
 
@@ -27,12 +27,12 @@ abbrev Rises : List KeyTexts → Type 0
 Rises [] = ⊤
 Rises (k ∷ keys) = Above k keys × Rises keys
 
-rises : (keys : List KeyTexts) → AreRising keys → Rises keys
+rises : (keys : List KeyTexts) → KeysRise keys → Rises keys
 unfolding IsStrictlySortedBy
 rises [] rising = tt
 rises (k ∷ keys) rising = (rising.0, rises keys rising.1)
 
-rising-from : (keys : List KeyTexts) → Rises keys → AreRising keys
+rising-from : (keys : List KeyTexts) → Rises keys → KeysRise keys
 unfolding IsStrictlySortedBy
 rising-from [] are = tt
 rising-from (k ∷ keys) are = (are.0, rising-from keys are.1)
@@ -70,13 +70,13 @@ after_same k (change ∷ changes) o above =
     ap (λ c. after k changes (cond (is_eq c) (left_by change) o)) above.0 ∙ after_same k changes o above.1
 
 get_changed : (m : Keyed) (change : Change) (k : KeyTexts)
-    → get (changed m change) k ≡ cond (eq_by_cmp key_cmp k (changed_key change)) (left_by change) (get m k)
+    → get (after_change m change) k ≡ cond (eq_by_cmp key_cmp k (changed_key change)) (left_by change) (get m k)
 get_changed m (Change.Put row) k = get-insert key_total m (key row) row k
 get_changed m (Change.Drop row) k = get-remove key_total m (key row) k
 
 get_all : (m : Keyed) (changes : List Change) (k : KeyTexts) → get (all_changed m changes) k ≡ after k changes (get m k)
 get_all m [] k = refl
-get_all m (change ∷ changes) k = get_all (changed m change) changes k ∙ ap (after k changes) (get_changed m change k)
+get_all m (change ∷ changes) k = get_all (after_change m change) changes k ∙ ap (after k changes) (get_changed m change k)
 
 -- ---- the row of a key among merged rows
 
@@ -123,7 +123,7 @@ puts_found k (change ∷ changes) are =
 placed_found : (k : KeyTexts) (row : SheetRow) (rows : List SheetRow) (others : List Change → List SheetRow)
     → ((changes : List Change) → Rises (map changed_key changes) → find_row k (others changes) ≡ after k changes (find_row k rows))
     → Above (key row) (map key rows) → (changes : List Change) → Rises (map changed_key changes)
-    → find_row k (placed row others changes) ≡ after k changes (find_row k (row ∷ rows))
+    → find_row k (row_among_changes row others changes) ≡ after k changes (find_row k (row ∷ rows))
 placed_found k row rows others later above [] are = ap (cond (eq_by_cmp key_cmp k (key row)) (Some row)) (later [] tt)
 placed_found k row rows others later above (change ∷ changes) are =
     by (placed_found k row rows others later above changes are.1) (key_cmp (changed_key change) (key row)) refl
@@ -140,12 +140,12 @@ placed_found k row rows others later above (change ∷ changes) are =
         (lt, above_higher (key row) (changed_key change) (map changed_key changes) lt are.0)))
     kept false e lt = later (change ∷ changes) are
 
-    by : find_row k (placed row others changes) ≡ after k changes (find_row k (row ∷ rows)) → (o : Ordering)
+    by : find_row k (row_among_changes row others changes) ≡ after k changes (find_row k (row ∷ rows)) → (o : Ordering)
         → key_cmp (changed_key change) (key row) ≡ o
-        → find_row k (by_order o (put_by change ++ placed row others changes) (put_by change ++ others changes) (row ∷ others (change ∷ changes)))
+        → find_row k (by_order o (put_by change ++ row_among_changes row others changes) (put_by change ++ others changes) (row ∷ others (change ∷ changes)))
         ≡ after k (change ∷ changes) (find_row k (row ∷ rows))
     by inner Ordering.Less e =
-        put_found k change changes (placed row others changes) (find_row k (row ∷ rows)) (find_row k (row ∷ rows)) are.0 inner
+        put_found k change changes (row_among_changes row others changes) (find_row k (row ∷ rows)) (find_row k (row ∷ rows)) are.0 inner
         (λ is. find_none k (row ∷ rows) (subst (λ j. Above j (map key (row ∷ rows))) (sym is)
         (e, above_higher (changed_key change) (key row) (map key rows) e above))) (λ other. refl)
     by inner Ordering.Equal e =
@@ -157,9 +157,9 @@ placed_found k row rows others later above (change ∷ changes) are =
         kept (eq_by_cmp key_cmp k (key row)) refl (turned (changed_key change) (key row) e)
 
 merged_found : (k : KeyTexts) (rows : List SheetRow) → Rises (map key rows) → (changes : List Change) → Rises (map changed_key changes)
-    → find_row k (merged rows changes) ≡ after k changes (find_row k rows)
+    → find_row k (rows_with_changes rows changes) ≡ after k changes (find_row k rows)
 merged_found k [] up changes are = puts_found k changes are
-merged_found k (row ∷ rows) up changes are = placed_found k row rows (merged rows) (merged_found k rows up.1) up.0 changes are
+merged_found k (row ∷ rows) up changes are = placed_found k row rows (rows_with_changes rows) (merged_found k rows up.1) up.0 changes are
 
 -- ---- the keys of merged rows rise
 
@@ -175,21 +175,21 @@ above_puts j (change ∷ changes) above = above_put j change (flat_map put_by ch
 above_placed : (j : KeyTexts) (row : SheetRow) (others : List Change → List SheetRow)
     → ((changes : List Change) → Above j (map changed_key changes) → Above j (map key (others changes)))
     → key_cmp j (key row) ≡ Ordering.Less → (changes : List Change) → Above j (map changed_key changes)
-    → Above j (map key (placed row others changes))
+    → Above j (map key (row_among_changes row others changes))
 above_placed j row others later lt [] above = (lt, later [] tt)
 above_placed j row others later lt (change ∷ changes) above =
     by (above_placed j row others later lt changes above.1) (key_cmp (changed_key change) (key row))
   where
-    by : Above j (map key (placed row others changes)) → (o : Ordering)
-        → Above j (map key (by_order o (put_by change ++ placed row others changes) (put_by change ++ others changes) (row ∷ others (change ∷ changes))))
-    by inner Ordering.Less = above_put j change (placed row others changes) above.0 inner
+    by : Above j (map key (row_among_changes row others changes)) → (o : Ordering)
+        → Above j (map key (by_order o (put_by change ++ row_among_changes row others changes) (put_by change ++ others changes) (row ∷ others (change ∷ changes))))
+    by inner Ordering.Less = above_put j change (row_among_changes row others changes) above.0 inner
     by inner Ordering.Equal = above_put j change (others changes) above.0 (later changes above.1)
     by inner Ordering.Greater = (lt, later (change ∷ changes) above)
 
 above_merged : (j : KeyTexts) (rows : List SheetRow) → Above j (map key rows) → (changes : List Change) → Above j (map changed_key changes)
-    → Above j (map key (merged rows changes))
+    → Above j (map key (rows_with_changes rows changes))
 above_merged j [] up changes above = above_puts j changes above
-above_merged j (row ∷ rows) up changes above = above_placed j row (merged rows) (above_merged j rows up.1) up.0 changes above
+above_merged j (row ∷ rows) up changes above = above_placed j row (rows_with_changes rows) (above_merged j rows up.1) up.0 changes above
 
 rises_put : (change : Change) (rows : List SheetRow) → Above (changed_key change) (map key rows) → Rises (map key rows)
     → Rises (map key (put_by change ++ rows))
@@ -202,21 +202,21 @@ rises_puts (change ∷ changes) are =
     rises_put change (flat_map put_by changes) (above_puts (changed_key change) changes are.0) (rises_puts changes are.1)
 
 rises_placed : (row : SheetRow) (rows : List SheetRow) → Above (key row) (map key rows)
-    → ((changes : List Change) → Rises (map changed_key changes) → Rises (map key (merged rows changes)))
-    → (changes : List Change) → Rises (map changed_key changes) → Rises (map key (placed row (merged rows) changes))
+    → ((changes : List Change) → Rises (map changed_key changes) → Rises (map key (rows_with_changes rows changes)))
+    → (changes : List Change) → Rises (map changed_key changes) → Rises (map key (row_among_changes row (rows_with_changes rows) changes))
 rises_placed row rows above later [] are = (above_merged (key row) rows above [] tt, later [] tt)
 rises_placed row rows above later (change ∷ changes) are =
     by (rises_placed row rows above later changes are.1) (key_cmp (changed_key change) (key row)) refl
   where
-    by : Rises (map key (placed row (merged rows) changes)) → (o : Ordering) → key_cmp (changed_key change) (key row) ≡ o
-        → Rises (map key (by_order o (put_by change ++ placed row (merged rows) changes) (put_by change ++ merged rows changes) (row ∷ merged rows (change ∷ changes))))
+    by : Rises (map key (row_among_changes row (rows_with_changes rows) changes)) → (o : Ordering) → key_cmp (changed_key change) (key row) ≡ o
+        → Rises (map key (by_order o (put_by change ++ row_among_changes row (rows_with_changes rows) changes) (put_by change ++ rows_with_changes rows changes) (row ∷ rows_with_changes rows (change ∷ changes))))
     by inner Ordering.Less e =
-        rises_put change (placed row (merged rows) changes)
-        (above_placed (changed_key change) row (merged rows)
+        rises_put change (row_among_changes row (rows_with_changes rows) changes)
+        (above_placed (changed_key change) row (rows_with_changes rows)
         (above_merged (changed_key change) rows (above_higher (changed_key change) (key row) (map key rows) e above)) e changes are.0) inner
     by inner Ordering.Equal e =
         let same : changed_key change ≡ key row = key_same (changed_key change) (key row) e in
-        rises_put change (merged rows changes)
+        rises_put change (rows_with_changes rows changes)
         (above_merged (changed_key change) rows (subst (λ j. Above j (map key rows)) (sym same) above) changes are.0) (later changes are.1)
     by inner Ordering.Greater e =
         let lt : key_cmp (key row) (changed_key change) ≡ Ordering.Less = turned (changed_key change) (key row) e in (
@@ -225,42 +225,42 @@ rises_placed row rows above later (change ∷ changes) are =
         )
 
 merged_rises : (rows : List SheetRow) → Rises (map key rows) → (changes : List Change) → Rises (map changed_key changes)
-    → Rises (map key (merged rows changes))
+    → Rises (map key (rows_with_changes rows changes))
 merged_rises [] up changes are = rises_puts changes are
 merged_rises (row ∷ rows) up changes are = rises_placed row rows up.0 (merged_rises rows up.1) changes are
 
 -- ---- so the merged rows are the patched rows
 
-pub merged_is : (rows : List SheetRow) (changes : List Change) → AreRising (map key rows) → AreRising (map changed_key changes)
-    → merged rows changes ≡ patched rows changes
+pub merged_is : (rows : List SheetRow) (changes : List Change) → KeysRise (map key rows) → KeysRise (map changed_key changes)
+    → rows_with_changes rows changes ≡ patched rows changes
 merged_is rows changes up are =
     let up_rises : Rises (map key rows) = rises (map key rows) up in
     let are_rises : Rises (map changed_key changes) = rises (map changed_key changes) are in
-    let made : List SheetRow = merged rows changes in
-    let same : keyed (merged rows changes) ≡ all_changed (keyed rows) changes =
-    same_map key_total key_same (keyed (merged rows changes)) (all_changed (keyed rows) changes)
-    (λ k. under (merged rows changes) k ∙ merged_found k rows up_rises changes are_rises
-    ∙ sym (get_all (keyed rows) changes k ∙ ap (after k changes) (under rows k))) in
-    sym (values_keyed (merged rows changes) (rising-from (map key (merged rows changes)) (merged_rises rows up_rises changes are_rises)))
+    let made : List SheetRow = rows_with_changes rows changes in
+    let same : rows_by_key (rows_with_changes rows changes) ≡ all_changed (rows_by_key rows) changes =
+    same_map key_total key_same (rows_by_key (rows_with_changes rows changes)) (all_changed (rows_by_key rows) changes)
+    (λ k. under (rows_with_changes rows changes) k ∙ merged_found k rows up_rises changes are_rises
+    ∙ sym (get_all (rows_by_key rows) changes k ∙ ap (after k changes) (under rows k))) in
+    sym (values_keyed (rows_with_changes rows changes) (rising-from (map key (rows_with_changes rows changes)) (merged_rises rows up_rises changes are_rises)))
     ∙ ap (λ m. values m) same
 
 -- ---- if rows and changes are of a sheet, the merged rows are rows of the sheet
 
 module _ (sheet : Sheet) where
-  each_put : (change : Change) (rows : List SheetRow) → IsChangeOf sheet change → All (IsRowOf sheet) rows → All (IsRowOf sheet) (put_by change ++ rows)
-  each_put (Change.Put row) rows is all = All-cons (IsRowOf sheet) row rows is.0 all
+  each_put : (change : Change) (rows : List SheetRow) → IsChangeOf sheet change → All (IsRowOfSheet sheet) rows → All (IsRowOfSheet sheet) (put_by change ++ rows)
+  each_put (Change.Put row) rows is all = All-cons (IsRowOfSheet sheet) row rows is.0 all
   each_put (Change.Drop row) rows is all = all
 
-  each_puts : (changes : List Change) → All (IsChangeOf sheet) changes → All (IsRowOf sheet) (flat_map put_by changes)
-  each_puts [] each = All-nil (IsRowOf sheet)
+  each_puts : (changes : List Change) → All (IsChangeOf sheet) changes → All (IsRowOfSheet sheet) (flat_map put_by changes)
+  each_puts [] each = All-nil (IsRowOfSheet sheet)
   each_puts (change ∷ changes) each =
       each_put change (flat_map put_by changes) (All-head (IsChangeOf sheet) change changes each)
       (each_puts changes (All-tail (IsChangeOf sheet) change changes each))
 
-  each_placed : (row : SheetRow) (others : List Change → List SheetRow) → IsRowOf sheet row
-      → ((changes : List Change) → All (IsChangeOf sheet) changes → All (IsRowOf sheet) (others changes))
-      → (changes : List Change) → All (IsChangeOf sheet) changes → All (IsRowOf sheet) (placed row others changes)
-  each_placed row others is later [] each = All-cons (IsRowOf sheet) row (others []) is (later [] each)
+  each_placed : (row : SheetRow) (others : List Change → List SheetRow) → IsRowOfSheet sheet row
+      → ((changes : List Change) → All (IsChangeOf sheet) changes → All (IsRowOfSheet sheet) (others changes))
+      → (changes : List Change) → All (IsChangeOf sheet) changes → All (IsRowOfSheet sheet) (row_among_changes row others changes)
+  each_placed row others is later [] each = All-cons (IsRowOfSheet sheet) row (others []) is (later [] each)
   each_placed row others is later (change ∷ changes) each =
       by (each_placed row others is later changes rest) (key_cmp (changed_key change) (key row))
     where
@@ -270,23 +270,23 @@ module _ (sheet : Sheet) where
       first : IsChangeOf sheet change
       first = All-head (IsChangeOf sheet) change changes each
 
-      by : All (IsRowOf sheet) (placed row others changes) → (o : Ordering)
-          → All (IsRowOf sheet) (by_order o (put_by change ++ placed row others changes) (put_by change ++ others changes) (row ∷ others (change ∷ changes)))
-      by inner Ordering.Less = each_put change (placed row others changes) first inner
+      by : All (IsRowOfSheet sheet) (row_among_changes row others changes) → (o : Ordering)
+          → All (IsRowOfSheet sheet) (by_order o (put_by change ++ row_among_changes row others changes) (put_by change ++ others changes) (row ∷ others (change ∷ changes)))
+      by inner Ordering.Less = each_put change (row_among_changes row others changes) first inner
       by inner Ordering.Equal = each_put change (others changes) first (later changes rest)
-      by inner Ordering.Greater = All-cons (IsRowOf sheet) row (others (change ∷ changes)) is (later (change ∷ changes) each)
+      by inner Ordering.Greater = All-cons (IsRowOfSheet sheet) row (others (change ∷ changes)) is (later (change ∷ changes) each)
 
-  each_merged : (rows : List SheetRow) → All (IsRowOf sheet) rows → (changes : List Change) → All (IsChangeOf sheet) changes
-      → All (IsRowOf sheet) (merged rows changes)
+  each_merged : (rows : List SheetRow) → All (IsRowOfSheet sheet) rows → (changes : List Change) → All (IsChangeOf sheet) changes
+      → All (IsRowOfSheet sheet) (rows_with_changes rows changes)
   each_merged [] all changes each = each_puts changes each
   each_merged (row ∷ rows) all changes each =
-      each_placed row (merged rows) (All-head (IsRowOf sheet) row rows all) (each_merged rows (All-tail (IsRowOf sheet) row rows all)) changes each
+      each_placed row (rows_with_changes rows) (All-head (IsRowOfSheet sheet) row rows all) (each_merged rows (All-tail (IsRowOfSheet sheet) row rows all)) changes each
 
   pub rows_stay : (rows : List SheetRow) (changes : List Change) → AreRows sheet rows → AreChanges sheet changes → AreRows sheet (patched rows changes)
   rows_stay rows changes are change =
-      let up : Rises (map key (merged rows changes)) =
+      let up : Rises (map key (rows_with_changes rows changes)) =
       merged_rises rows (rises (map key rows) are.rising) changes (rises (map changed_key changes) change.rising) in
       subst (AreRows sheet) (merged_is rows changes are.rising change.rising) (record {
         each = each_merged rows are.each changes change.each;
-        rising = rising-from (map key (merged rows changes)) up;
+        rising = rising-from (map key (rows_with_changes rows changes)) up;
       })

@@ -18,10 +18,10 @@ use Rattle.copy_csv.specs.declared.rows.Change.{Change}
 use Rattle.register_words.specs.declared.sheets.Form.{Form}
 use Rattle.register_words.specs.declared.sheets.Sheet.{Sheet}
 use Rattle.copy_forms.specs.Files.{FitsIn}
-use Rattle.copy_forms.specs.Patching.{Keyed, all_changed, changed, keyed, patched}
-use Rattle.copy_csv.specs.Rows.{AreChanges, AreRising, IsChangeOf, IsRowOf, changed_key, changed_row}
+use Rattle.copy_forms.specs.Patching.{Keyed, after_change, all_changed, patched, rows_by_key}
+use Rattle.copy_csv.specs.Rows.{AreChanges, IsChangeOf, IsRowOfSheet, KeysRise, changed_key, changed_row}
 use Rattle.copy_csv.specs.Sheets.{SheetRow, key, key_len, width}
-use Rattle.copy_forms.specs.Trails.{IsKeyOf, change_of, change_to, dropped_row, in_order, is_among, row_under}
+use Rattle.copy_forms.specs.Trails.{IsKeyOf, change_at_key, change_to, dropped_row, is_key_among, keys_in_order, row_under}
 use Rattle.copy_csv.proofs.RowLemmas.{key_total}
 use Rattle.copy_csv.proofs.WidthLemmas.{fits-alone}
 
@@ -74,7 +74,7 @@ key_dropped : (sheet : Sheet) (k : KeyTexts) → IsKeyOf sheet k → key (droppe
 key_dropped sheet k is = take_at k (replicate (width sheet - key_len sheet) (codes "")) (key_len sheet) is.full
 
 -- the key of a change is the key for which the change was made
-key_change : (sheet : Sheet) (now : List SheetRow) (k : KeyTexts) → IsKeyOf sheet k → changed_key (change_of sheet now k) ≡ k
+key_change : (sheet : Sheet) (now : List SheetRow) (k : KeyTexts) → IsKeyOf sheet k → changed_key (change_at_key sheet now k) ≡ k
 key_change sheet now k is = by (row_under now k) (sym (under now k))
   where
     by : (r : Option SheetRow) → find key_cmp k (map (λ row. (key row, row)) now) ≡ r → changed_key (change_to sheet k r) ≡ k
@@ -82,23 +82,23 @@ key_change sheet now k is = by (row_under now k) (sym (under now k))
     by (Some row) e = found now k row e
 
 get_changed : (sheet : Sheet) (now : List SheetRow) (m : Keyed) (j : KeyTexts) → IsKeyOf sheet j → (k : KeyTexts)
-    → get (changed m (change_of sheet now j)) k ≡ cond (eq_by_cmp key_cmp k j) (row_under now j) (get m k)
+    → get (after_change m (change_at_key sheet now j)) k ≡ cond (eq_by_cmp key_cmp k j) (row_under now j) (get m k)
 get_changed sheet now m j is k = by (row_under now j) (sym (under now j))
   where
     by : (r : Option SheetRow) → find key_cmp j (map (λ row. (key row, row)) now) ≡ r
-        → get (changed m (change_to sheet j r)) k ≡ cond (eq_by_cmp key_cmp k j) r (get m k)
+        → get (after_change m (change_to sheet j r)) k ≡ cond (eq_by_cmp key_cmp k j) r (get m k)
     by None e = get-remove key_total m (key (dropped_row sheet j)) k
         ∙ ap (λ i. cond (eq_by_cmp key_cmp k i) None (get m k)) (key_dropped sheet j is)
     by (Some row) e = get-insert key_total m (key row) row k
         ∙ ap (λ i. cond (eq_by_cmp key_cmp k i) (Some row) (get m k)) (found now j row e)
 
 get_all : (sheet : Sheet) (now : List SheetRow) (m : Keyed) (ks : List KeyTexts) → All (IsKeyOf sheet) ks → (k : KeyTexts)
-    → get (all_changed m (map (change_of sheet now) ks)) k ≡ cond (is_among k ks) (row_under now k) (get m k)
+    → get (all_changed m (map (change_at_key sheet now) ks)) k ≡ cond (is_key_among k ks) (row_under now k) (get m k)
 get_all sheet now m [] good k = refl
 get_all sheet now m (j ∷ ks) good k =
-    get_all sheet now (changed m (change_of sheet now j)) ks (All-tail (IsKeyOf sheet) j ks good) k
-    ∙ ap (cond (is_among k ks) (row_under now k)) (get_changed sheet now m j (All-head (IsKeyOf sheet) j ks good) k)
-    ∙ by (eq_by_cmp key_cmp k j) (is_among k ks) refl
+    get_all sheet now (after_change m (change_at_key sheet now j)) ks (All-tail (IsKeyOf sheet) j ks good) k
+    ∙ ap (cond (is_key_among k ks) (row_under now k)) (get_changed sheet now m j (All-head (IsKeyOf sheet) j ks good) k)
+    ∙ by (eq_by_cmp key_cmp k j) (is_key_among k ks) refl
   where
     by : (b t : Bool) → eq_by_cmp key_cmp k j ≡ b
         → cond t (row_under now k) (cond b (row_under now j) (get m k)) ≡ cond (b || t) (row_under now k) (get m k)
@@ -108,7 +108,7 @@ get_all sheet now m (j ∷ ks) good k =
 
 -- ---- the keys of a delta
 
-among_ordered : (touched : List KeyTexts) (k : KeyTexts) → is_among k (in_order touched) ≡ is_among k touched
+among_ordered : (touched : List KeyTexts) (k : KeyTexts) → is_key_among k (keys_in_order touched) ≡ is_key_among k touched
 among_ordered touched k =
     sym (contains_key-keys (from_entries {R = key_cmp} (map (λ k. (k, k)) touched)) k)
     ∙ ap is_some (get-from_entries key_total (map (λ k. (k, k)) touched) k)
@@ -134,7 +134,7 @@ put-all P k v (e ∷ es) p all =
     by others Ordering.Greater = All-cons P e.0 (map (λ (e : KeyTexts × KeyTexts). e.0) (put key_cmp k v es))
         (All-head P e.0 (map (λ (e : KeyTexts × KeyTexts). e.0) es) all) others
 
-ordered-all : (P : KeyTexts → Type 0) (touched : List KeyTexts) → All P touched → All P (in_order touched)
+ordered-all : (P : KeyTexts → Type 0) (touched : List KeyTexts) → All P touched → All P (keys_in_order touched)
 ordered-all P [] all = subst (λ (es : List (KeyTexts × KeyTexts)). All P (map (λ (e : KeyTexts × KeyTexts). e.0) es)) (sym entries-empty) (All-nil P)
   where
     entries-empty : entries {X = KeyTexts} (empty {R = key_cmp}) ≡ []
@@ -152,7 +152,7 @@ below k [] e = tt
 below k (x ∷ es) e = let parts = and_parts (is_lt (key_cmp k x.0)) (below_all key_cmp k es) e in (less (key_cmp k x.0) parts.0, below k es parts.1)
 
 -- the keys of sorted entries rise
-rising_entries : {X : Type 0} (es : List (KeyTexts × X)) → is_sorted key_cmp es ≡ true → AreRising (map (λ (e : KeyTexts × X). e.0) es)
+rising_entries : {X : Type 0} (es : List (KeyTexts × X)) → is_sorted key_cmp es ≡ true → KeysRise (map (λ (e : KeyTexts × X). e.0) es)
 unfolding IsStrictlySortedBy
 rising_entries [] e = tt
 rising_entries (x ∷ es) e =
@@ -164,7 +164,7 @@ above k [] all = refl
 above k (x ∷ rows) all = and_from (is_lt (key_cmp k (key x))) (below_all key_cmp k (map (λ row. (key row, row)) rows)) (ap is_lt all.0) (above k rows all.1)
 
 -- and rows with rising keys are sorted under these
-sorted_rows : (rows : List SheetRow) → AreRising (map key rows) → is_sorted key_cmp (map (λ row. (key row, row)) rows) ≡ true
+sorted_rows : (rows : List SheetRow) → KeysRise (map key rows) → is_sorted key_cmp (map (λ row. (key row, row)) rows) ≡ true
 unfolding IsStrictlySortedBy
 sorted_rows [] rising = refl
 sorted_rows (x ∷ rows) rising =
@@ -172,12 +172,12 @@ sorted_rows (x ∷ rows) rising =
     (above (key x) rows rising.0) (sorted_rows rows rising.1)
 
 -- so the rows are the values in this order
-pub values_keyed : (rows : List SheetRow) → AreRising (map key rows) → values (keyed rows) ≡ rows
+pub values_keyed : (rows : List SheetRow) → KeysRise (map key rows) → values (rows_by_key rows) ≡ rows
 values_keyed rows rising =
     let sorted : is_sorted key_cmp (map (λ row. (key row, row)) rows) ≡ true = sorted_rows rows rising in
     let t : T (is_sorted key_cmp (map (λ row. (key row, row)) rows)) = subst T (sym sorted) tt in
-    let same : keyed rows ≡ from_sorted {R = key_cmp} (map (λ row. (key row, row)) rows) =
-    same_map key_total key_same (keyed rows) (from_sorted (map (λ row. (key row, row)) rows))
+    let same : rows_by_key rows ≡ from_sorted {R = key_cmp} (map (λ row. (key row, row)) rows) =
+    same_map key_total key_same (rows_by_key rows) (from_sorted (map (λ row. (key row, row)) rows))
     (λ q. get-from_entries key_total (map (λ row. (key row, row)) rows) q ∙ sym (get-from_sorted key_cmp (map (λ row. (key row, row)) rows) q t)) in
     ap (λ m. values m) same ∙ ap (map (λ (e : KeyTexts × SheetRow). e.1)) (entries-from_sorted key_cmp (map (λ row. (key row, row)) rows) t) ∙ seconds rows
   where
@@ -188,19 +188,19 @@ values_keyed rows rising =
 -- ---- patching leads on
 
 -- rows are patched to other rows by a delta's changes, if the delta covers each key whose row differs
-pub leads_over : (sheet : Sheet) (before now : List SheetRow) (touched : List KeyTexts) → AreRising (map key now) → All (IsKeyOf sheet) touched
-    → ((k : KeyTexts) → is_among k touched ≡ false → row_under now k ≡ row_under before k)
-    → patched before (map (change_of sheet now) (in_order touched)) ≡ now
+pub leads_over : (sheet : Sheet) (before now : List SheetRow) (touched : List KeyTexts) → KeysRise (map key now) → All (IsKeyOf sheet) touched
+    → ((k : KeyTexts) → is_key_among k touched ≡ false → row_under now k ≡ row_under before k)
+    → patched before (map (change_at_key sheet now) (keys_in_order touched)) ≡ now
 leads_over sheet before now touched rising keys kept =
-    let good : All (IsKeyOf sheet) (in_order touched) = ordered-all (IsKeyOf sheet) touched keys in
-    let same : all_changed (keyed before) (map (change_of sheet now) (in_order touched)) ≡ keyed now =
-    same_map key_total key_same (all_changed (keyed before) (map (change_of sheet now) (in_order touched))) (keyed now)
-    (λ k. get_all sheet now (keyed before) (in_order touched) good k
+    let good : All (IsKeyOf sheet) (keys_in_order touched) = ordered-all (IsKeyOf sheet) touched keys in
+    let same : all_changed (rows_by_key before) (map (change_at_key sheet now) (keys_in_order touched)) ≡ rows_by_key now =
+    same_map key_total key_same (all_changed (rows_by_key before) (map (change_at_key sheet now) (keys_in_order touched))) (rows_by_key now)
+    (λ k. get_all sheet now (rows_by_key before) (keys_in_order touched) good k
     ∙ ap (λ t. cond t (row_under now k) (row_under before k)) (among_ordered touched k)
-    ∙ settled k (is_among k touched) refl) in
+    ∙ settled k (is_key_among k touched) refl) in
     ap (λ m. values m) same ∙ values_keyed now rising
   where
-    settled : (k : KeyTexts) (b : Bool) → is_among k touched ≡ b → cond b (row_under now k) (row_under before k) ≡ row_under now k
+    settled : (k : KeyTexts) (b : Bool) → is_key_among k touched ≡ b → cond b (row_under now k) (row_under before k) ≡ row_under now k
     settled k true e = refl
     settled k false e = sym (kept k e)
 
@@ -241,40 +241,40 @@ good_drop sheet k is =
       ap (list_all (λ text. bytes_eq text (codes ""))) (drop_at k (replicate n (codes "")) (key_len sheet) long) ∙ all_empty n,
     )
 
-good_change : (sheet : Sheet) (now : List SheetRow) (k : KeyTexts) → All (IsRowOf sheet) now → IsKeyOf sheet k
-    → IsChangeOf sheet (change_of sheet now k)
+good_change : (sheet : Sheet) (now : List SheetRow) (k : KeyTexts) → All (IsRowOfSheet sheet) now → IsKeyOf sheet k
+    → IsChangeOf sheet (change_at_key sheet now k)
 good_change sheet now k rows is = by (row_under now k) refl
   where
     by : (r : Option SheetRow) → row_under now k ≡ r → IsChangeOf sheet (change_to sheet k r)
     by None e = good_drop sheet k is
-    by (Some row) e = (one_of (IsRowOf sheet) now k row rows e, tt)
+    by (Some row) e = (one_of (IsRowOfSheet sheet) now k row rows e, tt)
 
-good_changes : (sheet : Sheet) (now : List SheetRow) (ks : List KeyTexts) → All (IsRowOf sheet) now → All (IsKeyOf sheet) ks
-    → All (IsChangeOf sheet) (map (change_of sheet now) ks)
+good_changes : (sheet : Sheet) (now : List SheetRow) (ks : List KeyTexts) → All (IsRowOfSheet sheet) now → All (IsKeyOf sheet) ks
+    → All (IsChangeOf sheet) (map (change_at_key sheet now) ks)
 good_changes sheet now [] rows keys = All-nil (IsChangeOf sheet)
 good_changes sheet now (k ∷ ks) rows keys =
-    All-cons (IsChangeOf sheet) (change_of sheet now k) (map (change_of sheet now) ks)
+    All-cons (IsChangeOf sheet) (change_at_key sheet now k) (map (change_at_key sheet now) ks)
     (good_change sheet now k rows (All-head (IsKeyOf sheet) k ks keys)) (good_changes sheet now ks rows (All-tail (IsKeyOf sheet) k ks keys))
 
 keys_of_changes : (sheet : Sheet) (now : List SheetRow) (ks : List KeyTexts) → All (IsKeyOf sheet) ks
-    → map changed_key (map (change_of sheet now) ks) ≡ ks
+    → map changed_key (map (change_at_key sheet now) ks) ≡ ks
 keys_of_changes sheet now [] keys = refl
 keys_of_changes sheet now (k ∷ ks) keys = λ i. key_change sheet now k (All-head (IsKeyOf sheet) k ks keys) i
     ∷ keys_of_changes sheet now ks (All-tail (IsKeyOf sheet) k ks keys) i
 
 -- the changes of a delta in the order of their keys
-pub are_changes : (sheet : Sheet) (now : List SheetRow) (touched : List KeyTexts) → All (IsRowOf sheet) now → All (IsKeyOf sheet) touched
-    → AreChanges sheet (map (change_of sheet now) (in_order touched))
+pub are_changes : (sheet : Sheet) (now : List SheetRow) (touched : List KeyTexts) → All (IsRowOfSheet sheet) now → All (IsKeyOf sheet) touched
+    → AreChanges sheet (map (change_at_key sheet now) (keys_in_order touched))
 are_changes sheet now touched rows keys =
-    let good : All (IsKeyOf sheet) (in_order touched) = ordered-all (IsKeyOf sheet) touched keys in
+    let good : All (IsKeyOf sheet) (keys_in_order touched) = ordered-all (IsKeyOf sheet) touched keys in
     let ordered = from_entries {R = key_cmp} (map (λ k. (k, k)) touched) in
-    let rising : AreRising (in_order touched) =
+    let rising : KeysRise (keys_in_order touched) =
     rising_entries (entries (from_entries {R = key_cmp} (map (λ k. (k, k)) touched)))
     (true_of (is_sorted key_cmp (entries (from_entries {R = key_cmp} (map (λ k. (k, k)) touched))))
     (entries_sorted (from_entries {R = key_cmp} (map (λ k. (k, k)) touched)))) in
     record {
-      each = good_changes sheet now (in_order touched) rows good;
-      rising = subst AreRising (sym (keys_of_changes sheet now (in_order touched) good)) rising;
+      each = good_changes sheet now (keys_in_order touched) rows good;
+      rising = subst KeysRise (sym (keys_of_changes sheet now (keys_in_order touched) good)) rising;
     }
   where
     true_of : (b : Bool) → T b → b ≡ true
@@ -288,7 +288,7 @@ drop-fits sheet Form.Json wide k is = tt
 drop-fits sheet Form.Csv wide k is = fits-alone wide (dropped_row sheet k) (good_drop sheet k is).1
 
 change-fits : (sheet : Sheet) (form : Form) (wide : Bool) (now : List SheetRow) (k : KeyTexts) → All (FitsIn form wide) now → IsKeyOf sheet k
-    → FitsIn form wide (changed_row (change_of sheet now k))
+    → FitsIn form wide (changed_row (change_at_key sheet now k))
 change-fits sheet form wide now k fit is = by (row_under now k) refl
   where
     by : (r : Option SheetRow) → row_under now k ≡ r → FitsIn form wide (changed_row (change_to sheet k r))
@@ -296,14 +296,14 @@ change-fits sheet form wide now k fit is = by (row_under now k) refl
     by (Some row) e = one_of (FitsIn form wide) now k row fit e
 
 changes-fit : (sheet : Sheet) (form : Form) (wide : Bool) (now : List SheetRow) (ks : List KeyTexts) → All (FitsIn form wide) now
-    → All (IsKeyOf sheet) ks → All (λ change. FitsIn form wide (changed_row change)) (map (change_of sheet now) ks)
+    → All (IsKeyOf sheet) ks → All (λ change. FitsIn form wide (changed_row change)) (map (change_at_key sheet now) ks)
 changes-fit sheet form wide now [] fit keys = All-nil (λ change. FitsIn form wide (changed_row change))
 changes-fit sheet form wide now (k ∷ ks) fit keys =
-    All-cons (λ change. FitsIn form wide (changed_row change)) (change_of sheet now k) (map (change_of sheet now) ks)
+    All-cons (λ change. FitsIn form wide (changed_row change)) (change_at_key sheet now k) (map (change_at_key sheet now) ks)
     (change-fits sheet form wide now k fit (All-head (IsKeyOf sheet) k ks keys)) (changes-fit sheet form wide now ks fit (All-tail (IsKeyOf sheet) k ks keys))
 
 -- the changes of a delta, in the order of their keys, fit a width if all rows do
 pub ordered-fit : (sheet : Sheet) (form : Form) (wide : Bool) (now : List SheetRow) (touched : List KeyTexts) → All (FitsIn form wide) now
-    → All (IsKeyOf sheet) touched → All (λ change. FitsIn form wide (changed_row change)) (map (change_of sheet now) (in_order touched))
+    → All (IsKeyOf sheet) touched → All (λ change. FitsIn form wide (changed_row change)) (map (change_at_key sheet now) (keys_in_order touched))
 ordered-fit sheet form wide now touched fit keys =
-    changes-fit sheet form wide now (in_order touched) fit (ordered-all (IsKeyOf sheet) touched keys)
+    changes-fit sheet form wide now (keys_in_order touched) fit (ordered-all (IsKeyOf sheet) touched keys)

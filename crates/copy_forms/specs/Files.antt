@@ -15,12 +15,12 @@ use Rattle.copy_csv.specs.Rows.{AreChanges, AreRows, IsCopyHead, IsDeltaHead, ch
 use Rattle.copy_csv.specs.Sheets.{SheetRow, fits, has_widths}
 
 -- The texts of a row: its line in CSV, in two parts, and its record in JSON.
-abbrev pub rendered : SheetRow → RowTexts
-rendered row = record { csv = row_start row; tail = row_tail row; json = json_record row }
+abbrev pub row_renderings : SheetRow → RowTexts
+row_renderings row = record { csv = row_start row; tail = row_tail row; json = json_record row }
 
 -- A change. If it puts its row, the row is rendered.
 abbrev pub rendered_change : Change → Rendered
-rendered_change (Change.Put row) = Rendered.put (rendered row)
+rendered_change (Change.Put row) = Rendered.put (row_renderings row)
 rendered_change (Change.Drop row) = Rendered.drop row
 
 -- Whether files of a sheet come in two widths, a narrow and a wide one: in CSV those of `lei` do.

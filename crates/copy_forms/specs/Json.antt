@@ -11,7 +11,7 @@ use Rattle.register_words.specs.declared.sheets.Sheet.{Sheet}
 use Rattle.copy_csv.specs.declared.heads.Head.{Head}
 use Rattle.copy_csv.specs.declared.rows.Change.{Change}
 use Rattle.copy_csv.specs.Rows.{changed_row}
-use Rattle.copy_csv.specs.Sheets.{SheetRow, names}
+use Rattle.copy_csv.specs.Sheets.{SheetRow, column_names}
 
 -- ---- a record
 
@@ -26,22 +26,22 @@ json_places Sheet.Repex = 2 ∷ 3 ∷ 4 ∷ 1 ∷ []
 
 -- The names of a sheet's fields in this order.
 abbrev pub json_names : Sheet → List Text
-json_names sheet = map (text_at (names sheet)) (json_places sheet)
+json_names sheet = map (text_at (column_names sheet)) (json_places sheet)
 
 -- A field: its name and its text.
-abbrev pub Field : Type 0
-Field = Text × Text
+abbrev pub JsonField : Type 0
+JsonField = Text × Text
 
 -- The field of a row at a place.
-abbrev pub field_at : SheetRow → ℕ → Field
-field_at row place = (text_at (names row.sheet) place, text_at row.texts place)
+abbrev pub field_at : SheetRow → ℕ → JsonField
+field_at row place = (text_at (column_names row.sheet) place, text_at row.texts place)
 
 -- The fields of a row in byte order of their names.
-abbrev pub json_fields : SheetRow → List Field
+abbrev pub json_fields : SheetRow → List JsonField
 json_fields row = map (field_at row) (json_places row.sheet)
 
 -- The members of an object: those of these fields that are present, each with its name and its text.
-abbrev pub members_of : List Field → Members
+abbrev pub members_of : List JsonField → Members
 members_of [] = no_members
 members_of (field ∷ fields) =
     if is_absent field.1 then members_of fields else member field.0 (string field.1) (members_of fields)
@@ -57,15 +57,15 @@ json_record row = compact_text (record_value row)
 -- ---- a copy
 
 -- An array of these values.
-abbrev pub items_of : List Data → Items
-items_of [] = no_items
-items_of (value ∷ values) = item value (items_of values)
+abbrev pub array_items : List Data → Items
+array_items [] = no_items
+array_items (value ∷ values) = item value (array_items values)
 
 -- The last members of a copy and of a delta: the number of the records, and the records.
 abbrev pub records_members : List Data → Members
 records_members values =
     member (codes "recordCount") (number (unsigned (length values)))
-    (member (codes "records") (array (items_of values)) no_members)
+    (member (codes "records") (array (array_items values)) no_members)
 
 -- A copy: the moment and the number of its publication, and its rows in order.
 abbrev pub copy_value : Head → List SheetRow → Data

@@ -9,7 +9,7 @@ use Rattle.lei_shapes.specs.Clock.{moment_text}
 use Rattle.copy_csv.specs.declared.heads.Head.{Head}
 use Rattle.copy_csv.specs.declared.rows.TextChange.{TextChange}
 use Rattle.copy_csv.specs.Csv.{Rendered, rendered_in}
-use Rattle.copy_forms.specs.Json.{Field, json_record}
+use Rattle.copy_forms.specs.Json.{JsonField, json_record}
 
 -- What precedes the text of a field: a comma if another field precedes it, its name, a colon, and the quote that opens
 -- its text.
@@ -17,14 +17,14 @@ abbrev pub lead : Bool → Text → Text
 lead later name = comma_if later ++ (quoted name ++ 58 ∷ 34 ∷ [])
 
 -- Those of these fields that are present, and the brace that closes their object.
-abbrev pub fields_text : Bool → List Field → Text
-fields_text later [] = 125 ∷ []
-fields_text later (field ∷ fields) =
-    if is_absent field.1 then fields_text later fields
-    else lead later field.0 ++ (escape field.1 ++ 34 ∷ fields_text true fields)
+abbrev pub json_fields_text : Bool → List JsonField → Text
+json_fields_text later [] = 125 ∷ []
+json_fields_text later (field ∷ fields) =
+    if is_absent field.1 then json_fields_text later fields
+    else lead later field.0 ++ (escape field.1 ++ 34 ∷ json_fields_text true fields)
 
 -- The tokens of a field, or none if it is absent.
-abbrev pub field_tokens : Field → List Token
+abbrev pub field_tokens : JsonField → List Token
 field_tokens field = if is_absent field.1 then [] else key field.0 ∷ string field.1 ∷ []
 
 -- These records with their commas, and the bracket that closes their array.

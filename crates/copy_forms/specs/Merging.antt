@@ -13,18 +13,18 @@ put_by (Change.Drop row) = []
 
 -- A row among changes. What changes with lesser keys put comes before the row. What a change with the row's key puts
 -- replaces the row. The other changes are left to the rows after it.
-abbrev pub placed : SheetRow → (List Change → List SheetRow) → List Change → List SheetRow
-placed row others [] = row ∷ others []
-placed row others (change ∷ changes) =
+abbrev pub row_among_changes : SheetRow → (List Change → List SheetRow) → List Change → List SheetRow
+row_among_changes row others [] = row ∷ others []
+row_among_changes row others (change ∷ changes) =
     by_order (key_cmp (changed_key change) (key row))
-    (put_by change ++ placed row others changes)
+    (put_by change ++ row_among_changes row others changes)
     (put_by change ++ others changes)
     (row ∷ others (change ∷ changes))
 
 -- Rows merged with changes: each row is placed among the changes that are left by the rows before it.
-abbrev pub merged : List SheetRow → List Change → List SheetRow
-merged [] changes = flat_map put_by changes
-merged (row ∷ rows) changes = placed row (merged rows) changes
+abbrev pub rows_with_changes : List SheetRow → List Change → List SheetRow
+rows_with_changes [] changes = flat_map put_by changes
+rows_with_changes (row ∷ rows) changes = row_among_changes row (rows_with_changes rows) changes
 
 -- What the changes from the index `at` up to, but without, the index `next` put.
 abbrev pub put_between : List Change → ℕ → ℕ → List SheetRow
@@ -33,11 +33,11 @@ put_between changes at next = flat_map put_by (take (next - at) (drop at changes
 -- A row is placed among the changes from `at` on, and those from `next` on are left to the rows after it. Whatever
 -- these rows are, merging the row and them with the changes gives three parts: what the changes before `next` put, the
 -- row if it stays, and the rows after it, merged with the changes that are left.
-abbrev pub StandsAmong : List Change → SheetRow → ℕ → ℕ → Bool → Type 0
-StandsAmong changes row at next stays =
+abbrev pub IsPlaceAmong : List Change → SheetRow → ℕ → ℕ → Bool → Type 0
+IsPlaceAmong changes row at next stays =
     (more : List SheetRow)
-    → put_between changes at next ++ ((if stays then row ∷ [] else []) ++ merged more (drop next changes))
-    ≡ merged (row ∷ more) (drop at changes)
+    → put_between changes at next ++ ((if stays then row ∷ [] else []) ++ rows_with_changes more (drop next changes))
+    ≡ rows_with_changes (row ∷ more) (drop at changes)
 
 -- A row was passed, whatever rows follow it. Merge the following rows with the changes from `next` on, and put the
 -- result after the new output. That is the same as the merge of the row and those rows with the changes from `at` on,
@@ -46,5 +46,5 @@ abbrev pub PassesRow : {X : Type 0} → (SheetRow → List X) → List Change �
     → List X → Type 0
 PassesRow print changes row at old next new =
     (more : List SheetRow)
-    → new ++ flat_map print (merged more (drop next changes))
-    ≡ old ++ flat_map print (merged (row ∷ more) (drop at changes))
+    → new ++ flat_map print (rows_with_changes more (drop next changes))
+    ≡ old ++ flat_map print (rows_with_changes (row ∷ more) (drop at changes))

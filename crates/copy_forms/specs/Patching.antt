@@ -15,23 +15,23 @@ abbrev pub Keyed : Type 0
 Keyed = FinMap key_cmp SheetRow
 
 -- The rows of a list under their keys.
-abbrev pub keyed : List SheetRow → Keyed
-keyed rows = from_entries (map (λ row. (key row, row)) rows)
+abbrev pub rows_by_key : List SheetRow → Keyed
+rows_by_key rows = from_entries (map (λ row. (key row, row)) rows)
 
 -- A change puts its row in the place of the row under its key, or as a new row. Or it removes the row under its key, if
 -- there is one.
-abbrev pub changed : Keyed → Change → Keyed
-changed rows (Change.Put row) = insert rows (key row) row
-changed rows (Change.Drop row) = remove rows (key row)
+abbrev pub after_change : Keyed → Change → Keyed
+after_change rows (Change.Put row) = insert rows (key row) row
+after_change rows (Change.Drop row) = remove rows (key row)
 
 -- The rows after all changes, applied in order.
 abbrev pub all_changed : Keyed → List Change → Keyed
 all_changed rows [] = rows
-all_changed rows (change ∷ changes) = all_changed (changed rows change) changes
+all_changed rows (change ∷ changes) = all_changed (after_change rows change) changes
 
 -- The rows of a copy after a delta was applied, in the order of their keys.
 abbrev pub patched : List SheetRow → List Change → List SheetRow
-patched rows changes = values (all_changed (keyed rows) changes)
+patched rows changes = values (all_changed (rows_by_key rows) changes)
 
 -- The head of a copy after a delta was applied: the moment and the number of the delta's publication.
 abbrev pub patched_head : Head → Head

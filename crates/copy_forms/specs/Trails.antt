@@ -12,9 +12,9 @@ use Rattle.copy_csv.specs.declared.rows.Change.{Change}
 use Rattle.register_words.specs.declared.sheets.Form.{Form}
 use Rattle.register_words.specs.declared.sheets.Sheet.{Sheet}
 use Rattle.copy_forms.specs.Files.{copy, delta, may_be_wide}
-use Rattle.copy_forms.specs.Patching.{IsPatched, keyed}
+use Rattle.copy_forms.specs.Patching.{IsPatched, rows_by_key}
 use Rattle.copy_csv.specs.Rows.{AreRows}
-use Rattle.copy_csv.specs.Sheets.{SheetRow, fits, key_len, row_of, width}
+use Rattle.copy_csv.specs.Sheets.{SheetRow, fits, key_len, row_of_texts, width}
 
 -- A publication: its moment, whether its files are wide if they may be, and its rows of each sheet. It also has the
 -- keys that were touched since the publication before it.
@@ -32,15 +32,15 @@ Trail = List Publication
 
 -- The row of a key, if there is one.
 abbrev pub row_under : List SheetRow → KeyTexts → Option SheetRow
-row_under rows k = get (keyed rows) k
+row_under rows k = get (rows_by_key rows) k
 
 -- Whether the key is one of these.
-abbrev pub is_among : KeyTexts → List KeyTexts → Bool
-is_among k keys = list_any (eq_by_cmp key_cmp k) keys
+abbrev pub is_key_among : KeyTexts → List KeyTexts → Bool
+is_key_among k keys = list_any (eq_by_cmp key_cmp k) keys
 
 -- The keys in order, each once.
-abbrev pub in_order : List KeyTexts → List KeyTexts
-in_order touched = keys (from_entries {R = key_cmp} (map (λ k. (k, k)) touched))
+abbrev pub keys_in_order : List KeyTexts → List KeyTexts
+keys_in_order touched = keys (from_entries {R = key_cmp} (map (λ k. (k, k)) touched))
 
 -- A key of a sheet: as many texts as the keys of its rows have, each UTF-8.
 pub record IsKeyOf (sheet : Sheet) (k : KeyTexts) : Type 0 where
@@ -52,11 +52,11 @@ pub record IsKeyOf (sheet : Sheet) (k : KeyTexts) : Type 0 where
 -- A publication follows another one. Its rows are rows of the sheet whose keys rise. A key that wasn't touched has the
 -- same row as before, or still has none. It is wide if the one before it is. If it isn't wide, its rows of `lei` have
 -- nothing for the columns that only a wide file has.
-pub record IsNext (before next : Publication) : Type 0 where
+pub record IsNextPublication (before next : Publication) : Type 0 where
   pub moment_is : IsMoment next.moment
   pub rows_are : (sheet : Sheet) → AreRows sheet (next.rows sheet)
   pub keys_are : (sheet : Sheet) → All (IsKeyOf sheet) (next.touched sheet)
-  pub kept : (sheet : Sheet) (k : KeyTexts) → is_among k (next.touched sheet) ≡ false
+  pub kept : (sheet : Sheet) (k : KeyTexts) → is_key_among k (next.touched sheet) ≡ false
       → row_under (next.rows sheet) k ≡ row_under (before.rows sheet) k
   pub widens : before.wide ≡ true → next.wide ≡ true
   pub plain : next.wide ≡ false → All (λ row. IsTrue (fits false row)) (next.rows Sheet.Lei)
@@ -64,15 +64,15 @@ pub record IsNext (before next : Publication) : Type 0 where
 -- Each publication follows the one before it.
 abbrev pub FollowOn : Publication → Trail → Type 0
 FollowOn before [] = ⊤
-FollowOn before (next ∷ later) = IsNext before next × FollowOn next later
+FollowOn before (next ∷ later) = IsNextPublication before next × FollowOn next later
 
 -- What precedes the first publication: a narrow one with no rows. Its moment has no meaning.
 abbrev pub nothing_published : Publication
 nothing_published = record { moment = pos 0; wide = false; rows = λ sheet. []; touched = λ sheet. [] }
 
 -- A trail is sound if each publication follows the one before it.
-abbrev pub IsSound : Trail → Type 0
-IsSound trail = FollowOn nothing_published trail
+abbrev pub IsSoundTrail : Trail → Type 0
+IsSoundTrail trail = FollowOn nothing_published trail
 
 -- ---- copies and deltas of a trail
 
@@ -96,7 +96,7 @@ copy_of number publication sheet form =
 
 -- The row of a dropped key: the key, followed by empty texts.
 abbrev pub dropped_row : Sheet → KeyTexts → SheetRow
-dropped_row sheet k = row_of sheet (k ++ replicate (width sheet - key_len sheet) (codes ""))
+dropped_row sheet k = row_of_texts sheet (k ++ replicate (width sheet - key_len sheet) (codes ""))
 
 -- What a delta says about a key, given the row that the key has now.
 abbrev pub change_to : Sheet → KeyTexts → Option SheetRow → Change
@@ -104,8 +104,8 @@ change_to sheet k (Some row) = Change.Put row
 change_to sheet k None = Change.Drop (dropped_row sheet k)
 
 -- The same, given all the rows that there are now.
-abbrev pub change_of : Sheet → List SheetRow → KeyTexts → Change
-change_of sheet rows k = change_to sheet k (row_under rows k)
+abbrev pub change_at_key : Sheet → List SheetRow → KeyTexts → Change
+change_at_key sheet rows k = change_to sheet k (row_under rows k)
 
 -- The keys of a sheet that were touched by these publications.
 abbrev pub touched_in : Sheet → List Publication → List KeyTexts
@@ -119,7 +119,7 @@ between trail from number = take (number - from) (drop from trail)
 -- with its row in the second one.
 abbrev pub changes_between : Trail → ℕ → ℕ → Publication → Sheet → List Change
 changes_between trail from number publication sheet =
-    map (change_of sheet (publication.rows sheet)) (in_order (touched_in sheet (between trail from number)))
+    map (change_at_key sheet (publication.rows sheet)) (keys_in_order (touched_in sheet (between trail from number)))
 
 -- The delta between two publications, in the width of the later one.
 abbrev pub delta_between : Trail → ℕ → ℕ → Publication → Sheet → Form → Text

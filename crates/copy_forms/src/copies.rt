@@ -7,8 +7,8 @@ ghost use Rattle.copy_csv.specs.declared.rows.Change.{Change};
 ghost use Rattle.std.specs.List.{All};
 ghost use Rattle.copy_csv.specs.Csv.{csv_copy, csv_delta, rendered_in};
 ghost use Rattle.copy_forms.specs.Json.{json_copy, json_delta};
-ghost use Rattle.copy_forms.specs.Files.{IsCopy, IsCopyRead, IsDelta, IsDeltaRead, copy, delta, rendered, rendered_change};
-ghost use Rattle.copy_csv.specs.Rows.{IsChangeOf, IsRowOf};
+ghost use Rattle.copy_forms.specs.Files.{IsCopy, IsCopyRead, IsDelta, IsDeltaRead, copy, delta, rendered_change, row_renderings};
+ghost use Rattle.copy_csv.specs.Rows.{IsChangeOf, IsRowOfSheet};
 ghost use Rattle.copy_csv.specs.Sheets.{SheetRow};
 
 use crate::json_files::{read_json_copy, read_json_delta};
@@ -132,8 +132,8 @@ pub fn copy_text(
     head: &Head,
     rows: &[RowTexts],
 ) -> Result<Bytes, NoMemory>
-    ensures { IfOk result (λ bytes. (sheet_rows : Items SheetRow) → rows.now ≡ map rendered sheet_rows
-        → All (IsRowOf sheet) sheet_rows → bytes ≡ copy sheet form wide head.now sheet_rows) }
+    ensures { IfOk result (λ bytes. (sheet_rows : Items SheetRow) → rows.now ≡ map row_renderings sheet_rows
+        → All (IsRowOfSheet sheet) sheet_rows → bytes ≡ copy sheet form wide head.now sheet_rows) }
 {
     match form {
         Form::Csv => copy_in_csv(alloc, sheet, wide, rows),
@@ -147,14 +147,14 @@ fn copy_in_csv(
     wide: bool,
     rows: &[RowTexts],
 ) -> Result<Bytes, NoMemory>
-    ensures { IfOk result (λ bytes. (sheet_rows : Items SheetRow) → rows.now ≡ map rendered sheet_rows
-        → All (IsRowOf sheet) sheet_rows → bytes ≡ csv_copy sheet wide sheet_rows) }
+    ensures { IfOk result (λ bytes. (sheet_rows : Items SheetRow) → rows.now ≡ map row_renderings sheet_rows
+        → All (IsRowOfSheet sheet) sheet_rows → bytes ≡ csv_copy sheet wide sheet_rows) }
 {
     csv_copy_text(alloc, sheet, wide, rows)
 }
 
 fn copy_in_json(alloc: Global, head: &Head, rows: &[RowTexts]) -> Result<Bytes, NoMemory>
-    ensures { IfOk result (λ bytes. (sheet_rows : Items SheetRow) → rows.now ≡ map rendered sheet_rows
+    ensures { IfOk result (λ bytes. (sheet_rows : Items SheetRow) → rows.now ≡ map row_renderings sheet_rows
         → bytes ≡ json_copy head.now sheet_rows) }
 {
     json_copy_text(alloc, head, rows)

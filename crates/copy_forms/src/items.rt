@@ -4,7 +4,7 @@ ghost use Rattle.copy_forms.specs.Items.{item_text};
 ghost use Rattle.copy_forms.specs.Json.{field_at, json_record};
 ghost use Rattle.copy_forms.specs.JsonTexts as spec;
 ghost use Rattle.copy_csv.specs.Sheets;
-ghost use Rattle.copy_csv.specs.Sheets.{row_of};
+ghost use Rattle.copy_csv.specs.Sheets.{row_of_texts};
 
 use crate::json_text::places;
 use copy_csv::Sheet;
@@ -28,7 +28,7 @@ pub fn item_text(alloc: Global, item: &Item) -> Result<Bytes, NoMemory>
 /// The JSON record of the row that has these texts in order of place.
 pub fn fields_text(alloc: Global, sheet: Sheet, texts: &FieldTexts) -> Result<Bytes, NoMemory>
     requires { length texts.now ≡ Sheets.width sheet }
-    ensures { IfOk result (λ text. text ≡ json_record (row_of sheet texts.now)) }
+    ensures { IfOk result (λ text. text ≡ json_record (row_of_texts sheet texts.now)) }
 {
     let room = record_room(sheet, texts);
     let mut out = Writer::new(Vec::with_capacity(alloc, room)?);
@@ -68,7 +68,7 @@ fn put_field(
     requires last { place ≤ Sheets.width sheet }
     ensures before { out.new.before ≡ out.old.before }
     ensures tokens { OnOk result (out.new.tokens ≡
-        out.old.tokens ++ spec.field_tokens (field_at (row_of sheet texts.now) place)) }
+        out.old.tokens ++ spec.field_tokens (field_at (row_of_texts sheet texts.now) place)) }
 {
     let name = name_at(sheet, place);
     let text = texts.text(place - 1);

@@ -8,7 +8,7 @@ ghost use Rattle.copy_csv.specs.declared.heads.Head.{Head as DeclaredHead};
 ghost use Rattle.copy_csv.specs.declared.faults.FormFault;
 ghost use Rattle.copy_csv.specs.Sheets.{SheetRow};
 ghost use Rattle.copy_csv.specs.declared.rows.Change.{Change as Changed};
-ghost use Rattle.copy_forms.specs.JsonReading.{Gives, IsJsonCopy, IsJsonDelta, items_from};
+ghost use Rattle.copy_forms.specs.JsonReading.{IsJsonCopy, IsJsonDelta, JsonGives, items_from};
 
 use crate::json_heads::{base_from, count_from, date_from, publication_from};
 use crate::json_read::{leads, record_from};
@@ -41,7 +41,7 @@ fn byte_count(bytes: &[u8]) -> usize
 // The head and the rows that are read from a copy.
 #[tactic(auto, unfolding(crate::specs::JsonReading::copy_from))]
 fn copy_from(alloc: Global, sheet: Sheet, bytes: &[u8]) -> Result<(Head, Vec<Row>), FormFault>
-    ensures { Gives (λ read. (read.0, read.1.items)) result (spec.copy_from sheet bytes.now) }
+    ensures { JsonGives (λ read. (read.0, read.1.items)) result (spec.copy_from sheet bytes.now) }
 {
     let leads = leads(alloc, sheet)?;
     let (moment, rest) = match date_from(alloc, bytes) {
@@ -72,7 +72,8 @@ fn rows_from(
     bytes: &[u8],
 ) -> Result<Vec<Row>, FormFault>
     requires { leads.now ≡ map (JsonTexts.lead true) (json_names sheet) }
-    ensures { Gives (λ rows. rows.items) result (items_from (spec.record_from sheet) count false bytes.now) }
+    ensures { JsonGives (λ rows. rows.items) result
+        (items_from (spec.record_from sheet) count false bytes.now) }
 {
     let mut rows = Vec::new(alloc);
     let mut rest = bytes;
@@ -93,7 +94,7 @@ fn rows_from(
 
 // The bytes of an item: those after a comma, if another item precedes it.
 fn item_place(bytes: &[u8], later: bool) -> Option<&[u8]>
-    ensures { option_map (λ rest. rest.now) result ≡ spec.after (Written.comma_if later) bytes.now }
+    ensures { option_map (λ rest. rest.now) result ≡ spec.after_front (Written.comma_if later) bytes.now }
 {
     if later {
         return after(bytes, b",");
@@ -118,7 +119,7 @@ pub fn read_json_delta(
 // The head and the changes that are read from a delta.
 #[tactic(auto, unfolding(crate::specs::JsonReading::delta_from))]
 fn delta_from(alloc: Global, sheet: Sheet, bytes: &[u8]) -> Result<(Head, Vec<Change>), FormFault>
-    ensures { Gives (λ read. (read.0, read.1.items)) result (spec.delta_from sheet bytes.now) }
+    ensures { JsonGives (λ read. (read.0, read.1.items)) result (spec.delta_from sheet bytes.now) }
 {
     let leads = leads(alloc, sheet)?;
     let (moment, rest) = match date_from(alloc, bytes) {
@@ -152,7 +153,7 @@ fn changes_from(
     bytes: &[u8],
 ) -> Result<Vec<Change>, FormFault>
     requires { leads.now ≡ map (JsonTexts.lead true) (json_names sheet) }
-    ensures { Gives (λ changes. changes.items) result
+    ensures { JsonGives (λ changes. changes.items) result
         (items_from (spec.change_from sheet) count false bytes.now) }
 {
     let mut changes = Vec::new(alloc);
@@ -181,7 +182,7 @@ fn change_from<'a>(
     bytes: &'a [u8],
 ) -> Result<(Change, &'a [u8]), FormFault>
     requires { leads.now ≡ map (JsonTexts.lead true) (json_names sheet) }
-    ensures { Gives (λ read. (read.0, read.1.now)) result (spec.change_from sheet bytes.now) }
+    ensures { JsonGives (λ read. (read.0, read.1.now)) result (spec.change_from sheet bytes.now) }
 {
     let put = after(bytes, b"{\"action\":\"PUT\",\"record\":");
     let dropped = after(bytes, b"{\"action\":\"DROP\",\"record\":");
@@ -201,7 +202,7 @@ fn changed_from<'a>(
     bytes: &'a [u8],
 ) -> Result<(Change, &'a [u8]), FormFault>
     requires { leads.now ≡ map (JsonTexts.lead true) (json_names sheet) }
-    ensures { Gives (λ read. (read.0, read.1.now)) result (spec.changed_from sheet puts bytes.now) }
+    ensures { JsonGives (λ read. (read.0, read.1.now)) result (spec.changed_from sheet puts bytes.now) }
 {
     let (row, rest) = record_from(alloc, sheet, leads, bytes)?;
     let Some(behind) = after(rest, b"}") else {
@@ -215,7 +216,7 @@ fn changed_from<'a>(
 
 // The change that a row was read for, if the row may be in one: that of a dropped key has only the key.
 fn change_of(puts: bool, row: Row) -> Option<Change>
-    ensures { result ≡ spec.change_of puts row }
+    ensures { result ≡ spec.change_with_row puts row }
 {
     if puts {
         return Some(Change::Put(row));

@@ -3,7 +3,7 @@ ghost use Rattle.std.specs.Prelude.{◌≡◌, ◌≤◌, ◌<◌, ◌+◌, ◌=
 ghost use Rattle.std.specs.Char.{is_ascii_digit};
 ghost use Rattle.std.specs.List.{prefix_len};
 ghost use Rattle.copy_forms.specs.JsonReading as spec;
-ghost use Rattle.copy_forms.specs.JsonReading.{Gives, number_of};
+ghost use Rattle.copy_forms.specs.JsonReading.{JsonGives, publication_number_in};
 
 use crate::json_strings::{after, escaped_from};
 use copy_csv::FormFault;
@@ -15,7 +15,7 @@ use std::str;
 /// The moment of a file, and the bytes after it.
 #[tactic(auto, unfolding(crate::specs::JsonReading::date_from, crate::specs::JsonReading::moment_from, json::specs::Print::escape_byte))]
 pub fn date_from<'a>(alloc: Global, bytes: &'a [u8]) -> Result<(Moment, &'a [u8]), FormFault>
-    ensures { Gives (λ read. (read.0, read.1.now)) result (spec.date_from bytes.now) }
+    ensures { JsonGives (λ read. (read.0, read.1.now)) result (spec.date_from bytes.now) }
 {
     let Some(date) = after(bytes, b"{\"contentDate\":\"") else {
         return Err(FormFault::NotRead);
@@ -58,7 +58,7 @@ fn digit_count(bytes: &[u8]) -> usize
 
 // The number whose decimal form these digits are.
 fn number_of(digits: &[u8]) -> Option<u64>
-    ensures { result ≡ number_of digits.now }
+    ensures { result ≡ publication_number_in digits.now }
 {
     let number = match str::from_utf8(digits) {
         Ok(digits) => digits.parse::<u64>(),
@@ -87,11 +87,12 @@ fn number_from(bytes: &[u8]) -> Option<(u64, &[u8])>
 }
 
 // The number of a publication after a prefix, and the bytes after the number.
-#[tactic(auto, unfolding(crate::specs::JsonReading::publication_behind))]
-fn publication_behind<'a>(bytes: &'a [u8], front: &[u8]) -> Option<(u32, &'a [u8])>
-    ensures { option_map (λ read. (read.0, read.1.now)) result ≡ spec.publication_behind front.now bytes.now }
+#[tactic(auto, unfolding(crate::specs::JsonReading::publication_after_front))]
+fn publication_after_front<'a>(bytes: &'a [u8], front: &[u8]) -> Option<(u32, &'a [u8])>
+    ensures { option_map (λ read. (read.0, read.1.now)) result
+        ≡ spec.publication_after_front front.now bytes.now }
 {
-    let Some((number, rest)) = number_behind(bytes, front) else {
+    let Some((number, rest)) = number_after_front(bytes, front) else {
         return None;
     };
     if matches!(number, 1..=1_000_000) {
@@ -102,8 +103,8 @@ fn publication_behind<'a>(bytes: &'a [u8], front: &[u8]) -> Option<(u32, &'a [u8
 }
 
 // The number after a prefix, and the bytes after the number.
-fn number_behind<'a>(bytes: &'a [u8], front: &[u8]) -> Option<(u64, &'a [u8])>
-    ensures { option_map (λ read. (read.0, read.1.now)) result ≡ spec.number_behind front.now bytes.now }
+fn number_after_front<'a>(bytes: &'a [u8], front: &[u8]) -> Option<(u64, &'a [u8])>
+    ensures { option_map (λ read. (read.0, read.1.now)) result ≡ spec.number_after_front front.now bytes.now }
 {
     match after(bytes, front) {
         Some(digits) => number_from(digits),
@@ -117,7 +118,7 @@ pub fn publication_from(bytes: &[u8]) -> Option<(u32, &[u8])>
     ensures { option_map (λ read. (read.0, read.1.now)) result
         ≡ spec.publication_from (codes "publication") bytes.now }
 {
-    publication_behind(bytes, b",\"publication\":")
+    publication_after_front(bytes, b",\"publication\":")
 }
 
 /// The number of the publication that a delta starts from, and the bytes after it.
@@ -126,7 +127,7 @@ pub fn base_from(bytes: &[u8]) -> Option<(u32, &[u8])>
     ensures { option_map (λ read. (read.0, read.1.now)) result
         ≡ spec.publication_from (codes "fromPublication") bytes.now }
 {
-    publication_behind(bytes, b",\"fromPublication\":")
+    publication_after_front(bytes, b",\"fromPublication\":")
 }
 
 /// The number of records in a file, and the bytes after the bracket that opens their array.
@@ -134,7 +135,7 @@ pub fn base_from(bytes: &[u8]) -> Option<(u32, &[u8])>
 pub fn count_from(bytes: &[u8]) -> Option<(u64, &[u8])>
     ensures { option_map (λ read. (read.0, read.1.now)) result ≡ spec.count_from bytes.now }
 {
-    let Some((count, rest)) = number_behind(bytes, b",\"recordCount\":") else {
+    let Some((count, rest)) = number_after_front(bytes, b",\"recordCount\":") else {
         return None;
     };
     match after(rest, b",\"records\":[") {

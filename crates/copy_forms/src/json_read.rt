@@ -3,7 +3,7 @@ ghost use Rattle.std.specs.Prelude.{◌≡◌, ◌≤◌, ◌++◌, ◌∷◌, L
 ghost use Rattle.copy_forms.specs.Json.{json_names};
 ghost use Rattle.copy_forms.specs.JsonTexts;
 ghost use Rattle.copy_forms.specs.JsonReading as spec;
-ghost use Rattle.copy_forms.specs.JsonReading.{Adds, Gives, json_ranks, kept};
+ghost use Rattle.copy_forms.specs.JsonReading.{AddsText, JsonGives, json_ranks, utf8_text};
 ghost use Rattle.copy_csv.specs.Sheets;
 
 use crate::json_strings::{after, escaped_from, plain_len};
@@ -60,7 +60,7 @@ fn lead(alloc: Global, name: &str) -> Result<Bytes, NoMemory>
 
 // Appends a text that a record may have: it isn't empty, and it is UTF-8.
 fn put_text(texts: &mut Texts, text: &[u8]) -> Result<(), FormFault>
-    ensures { Adds (λ kept _. kept) texts.old texts.new result (kept text.now) }
+    ensures { AddsText (λ kept _. kept) texts.old texts.new result (utf8_text text.now) }
 {
     if text.is_empty() {
         return Err(FormFault::NotRead);
@@ -76,7 +76,8 @@ fn put_text(texts: &mut Texts, text: &[u8]) -> Result<(), FormFault>
 
 // Appends the text of a string, read from after its opening quote, and returns the bytes after the string.
 fn text_from<'a>(alloc: Global, texts: &mut Texts, bytes: &'a [u8]) -> Result<&'a [u8], FormFault>
-    ensures { Adds (λ text rest. (text, rest.now)) texts.old texts.new result (spec.text_from bytes.now) }
+    ensures { AddsText (λ text rest. (text, rest.now)) texts.old texts.new result
+        (spec.json_text_from bytes.now) }
 {
     let (plain, stop) = bytes.split_at(plain_len(bytes));
     if let Some(rest) = after(stop, b"\"") {
@@ -97,9 +98,9 @@ fn field_from<'a>(
     later: bool,
     bytes: &'a [u8],
 ) -> Result<(bool, &'a [u8]), FormFault>
-    ensures { Adds (λ text read. record { text = text; later = read.0; rest = read.1.now }) texts.old
+    ensures { AddsText (λ text read. record { text = text; later = read.0; rest = read.1.now }) texts.old
         texts.new result
-        (spec.field_behind later bytes.now (spec.after lead.now bytes.now)) }
+        (spec.field_after later bytes.now (spec.after_front lead.now bytes.now)) }
 {
     match after(bytes, lead) {
         None => {
@@ -121,7 +122,7 @@ fn fields_from<'a>(
     bytes: &'a [u8],
 ) -> Result<(Texts, &'a [u8]), FormFault>
     requires { leads.now ≡ map (JsonTexts.lead true) (json_names sheet) }
-    ensures { Gives (λ read. (read.0, read.1.now)) result
+    ensures { JsonGives (λ read. (read.0, read.1.now)) result
         (spec.fields_from (json_names sheet) false bytes.now) }
 {
     // Most texts are short.
@@ -153,10 +154,10 @@ fn own_lead(lead: &Bytes, later: bool) -> &[u8]
 }
 
 // The row of texts that are in byte order of their fields' names.
-#[tactic(auto, unfolding(crate::specs::JsonReading::placed))]
-fn placed(alloc: Global, sheet: Sheet, texts: &Texts) -> Result<Row, NoMemory>
+#[tactic(auto, unfolding(crate::specs::JsonReading::row_by_names))]
+fn row_by_names(alloc: Global, sheet: Sheet, texts: &Texts) -> Result<Row, NoMemory>
     requires { length texts.now ≡ Sheets.width sheet }
-    ensures { IfOk result (λ row. row ≡ spec.placed sheet texts.now) }
+    ensures { IfOk result (λ row. row ≡ spec.row_by_names sheet texts.now) }
 {
     let mut row = Texts::with_capacity(alloc, texts.len(), texts.joined().len())?;
     for rank in ranks(sheet) {
@@ -174,11 +175,11 @@ pub fn record_from<'a>(
     bytes: &'a [u8],
 ) -> Result<(Row, &'a [u8]), FormFault>
     requires { leads.now ≡ map (JsonTexts.lead true) (json_names sheet) }
-    ensures { Gives (λ read. (read.0, read.1.now)) result (spec.record_from sheet bytes.now) }
+    ensures { JsonGives (λ read. (read.0, read.1.now)) result (spec.record_from sheet bytes.now) }
 {
     let Some(fields) = after(bytes, b"{") else {
         return Err(FormFault::NotRead);
     };
     let (texts, rest) = fields_from(alloc, sheet, leads, fields)?;
-    Ok((placed(alloc, sheet, &texts)?, rest))
+    Ok((row_by_names(alloc, sheet, &texts)?, rest))
 }

@@ -2,14 +2,14 @@
 ghost use Rattle.std.specs.Prelude.{◌≡◌, ◌<◌, ◌≤◌, ◌++◌, ℕ, List, true, false, length, slice_index, map, option_map, MatchOption};
 ghost use Rattle.json.specs.Print.{escape_byte};
 ghost use Rattle.copy_forms.specs.JsonReading as spec;
-ghost use Rattle.copy_forms.specs.JsonReading.{Gives, escapes, is_escaped, string_from};
+ghost use Rattle.copy_forms.specs.JsonReading.{JsonGives, escapes, is_escaped, string_from};
 
 use copy_csv::FormFault;
 use std::alloc::Global;
 
 /// The bytes after a prefix, if they start with it.
 pub fn after<'a>(bytes: &'a [u8], front: &[u8]) -> Option<&'a [u8]>
-    ensures { option_map (λ rest. rest.now) result ≡ spec.after front.now bytes.now }
+    ensures { option_map (λ rest. rest.now) result ≡ spec.after_front front.now bytes.now }
 {
     match bytes.strip_prefix(front) {
         Some(rest) => Some(rest),
@@ -90,7 +90,7 @@ pub fn plain_len(bytes: &[u8]) -> usize
 
 /// The text of a string that may have escapes, read from after its opening quote, and the bytes after the string.
 pub fn escaped_from<'a>(alloc: Global, bytes: &'a [u8]) -> Result<(Vec<u8>, &'a [u8]), FormFault>
-    ensures { Gives (λ read. (read.0.items, read.1.now)) result (string_from bytes.now) }
+    ensures { JsonGives (λ read. (read.0.items, read.1.now)) result (string_from bytes.now) }
 {
     let mut text = Vec::new(alloc);
     let mut rest = bytes;

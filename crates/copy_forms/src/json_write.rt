@@ -20,7 +20,7 @@ pub fn json_copy_text(alloc: Global, head: &Head, rows: &[RowTexts]) -> Result<B
         ≡ before_copy head.now (length rows.now)
         (records_text false (map (λ texts. texts.json) rows.now) ++ 125 ∷ [])) }
 {
-    let mut out = copy_begin(alloc, head, rows.len())?;
+    let mut out = copy_start(alloc, head, rows.len())?;
     for (index, texts) in rows.iter().enumerate() {
         put_item(&mut out, 0 < index, texts.json.as_slice())?;
     }
@@ -37,7 +37,7 @@ pub fn json_rows_text(
 ) -> Result<Bytes, NoMemory>
     ensures { IfOk result (λ bytes. bytes ≡ json_copy head.now (map (λ row. row.now) rows.now)) }
 {
-    let mut out = copy_begin(alloc, head, rows.len())?;
+    let mut out = copy_start(alloc, head, rows.len())?;
     out.reserve(room)?;
     for (index, row) in rows.iter().enumerate() {
         let record = record_text(alloc, row)?;
@@ -57,7 +57,7 @@ pub fn json_delta_text(
         ≡ before_delta head.now (length changes.now)
         (records_text false (map text_change_record changes.now) ++ 125 ∷ [])) }
 {
-    let mut out = delta_begin(alloc, head, changes.len())?;
+    let mut out = delta_start(alloc, head, changes.len())?;
     for (index, change) in changes.iter().enumerate() {
         put_change(alloc, &mut out, 0 < index, change)?;
     }
@@ -121,7 +121,7 @@ pub fn put_item(out: &mut Vec<u8>, later: bool, item: &[u8]) -> Result<(), NoMem
 }
 
 // The start of a copy, up to the bracket that opens the array of its records.
-fn copy_begin(alloc: Global, head: &Head, count: usize) -> Result<Vec<u8>, NoMemory>
+fn copy_start(alloc: Global, head: &Head, count: usize) -> Result<Vec<u8>, NoMemory>
     ensures { IfOk result (λ out. (rest : List ℕ) → out.items ++ rest ≡ before_copy head.now count rest) }
 {
     let mut out = Writer::new(Vec::new(alloc));
@@ -133,7 +133,7 @@ fn copy_begin(alloc: Global, head: &Head, count: usize) -> Result<Vec<u8>, NoMem
 }
 
 // The start of a delta, up to the bracket that opens the array of its records.
-fn delta_begin(alloc: Global, head: &Head, count: usize) -> Result<Vec<u8>, NoMemory>
+fn delta_start(alloc: Global, head: &Head, count: usize) -> Result<Vec<u8>, NoMemory>
     ensures { IfOk result (λ out. (rest : List ℕ) → out.items ++ rest ≡ before_delta head.now count rest) }
 {
     let mut out = Writer::new(Vec::new(alloc));

@@ -12,21 +12,22 @@ ghost use Rattle.copy_forms.specs.Json.{json_names};
 ghost use Rattle.copy_csv.specs.Csv.{IsCsvCopy, IsCsvDelta};
 ghost use Rattle.copy_forms.specs.Files.{IsCopy, IsDelta};
 ghost use Rattle.copy_csv.specs.Sheets.{SheetRow};
-ghost use Rattle.copy_forms.specs.Trails.{DeltasLeadOn, DeltasLeadOnFromBetween, IsSound, Trail};
+ghost use Rattle.copy_forms.specs.Trails.{DeltasLeadOn, DeltasLeadOnFromBetween, IsSoundTrail, Trail};
 
 /// In every sound trail of at most 1,000,000 publications, take a copy and the delta from it to the same or a later
 /// publication. The copy patched by the delta is that publication's copy, byte for byte, in both forms and for each
 /// sheet. The delta may be empty, have a row that changed back, or drop a key that the copy lacks. It may also lead
 /// from a narrow publication to a wide one.
 pub fn deltas_lead_from_copy_to_copy()
-    ensures { (trail : Trail) → IsSound trail → length trail ≤ 1_000_000 → DeltasLeadOn trail }
+    ensures { (trail : Trail) → IsSoundTrail trail → length trail ≤ 1_000_000 → DeltasLeadOn trail }
 {}
 
 /// In every sound trail of at most 1,000,000 publications, take a copy. Take also a delta from the same or an earlier
 /// publication to the same or a later one. The copy patched by the delta is the copy of the publication that the delta
 /// leads to. This holds byte for byte, in both forms and for each sheet.
 pub fn deltas_lead_on_from_between()
-    ensures { (trail : Trail) → IsSound trail → length trail ≤ 1_000_000 → DeltasLeadOnFromBetween trail }
+    ensures { (trail : Trail) → IsSoundTrail trail → length trail ≤ 1_000_000
+        → DeltasLeadOnFromBetween trail }
 {}
 
 /// In CSV, copies of a sheet have different texts if their widths or their rows differ. So have deltas if their widths

@@ -3,7 +3,7 @@ ghost use Rattle.std.specs.Prelude.{◌≡◌, ◌≤◌, length, map};
 ghost use Rattle.std.specs.List.{All};
 ghost use Rattle.copy_csv.specs.declared.rows.Change.{Change as Changed};
 ghost use Rattle.copy_csv.specs.Rows.{changed_row};
-ghost use Rattle.copy_forms.specs.Merging.{StandsAmong};
+ghost use Rattle.copy_forms.specs.Merging.{IsPlaceAmong};
 
 use copy_csv::{Change, Row};
 use std::cmp::Ordering;
@@ -31,7 +31,7 @@ impl HeldChange for Change {
 pub fn place_row<C: HeldChange>(changes: &[C], at: usize, row: &Row) -> (usize, bool)
     requires place { at ≤ length changes.now }
     requires sheets { All (λ change. (changed_row (C.change change)).sheet ≡ row.now.sheet) changes.now }
-    ensures stands { StandsAmong (map C.change changes.now) row.now at result.0 result.1 }
+    ensures stands { IsPlaceAmong (map C.change changes.now) row.now at result.0 result.1 }
     ensures onward { at ≤ result.0 }
     ensures place { result.0 ≤ length changes.now }
 {

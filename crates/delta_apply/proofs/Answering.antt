@@ -20,7 +20,7 @@ use Rattle.copy_forms.proofs.BetweenLemmas.{leads_with_heads}
 use Rattle.copy_forms.proofs.CopyLemmas.{copy-same, csv-copy, csv-copy-with, csv-delta, delta-same}
 use Rattle.delta_apply.specs.declared.fault.ApplyFault.{ApplyFault}
 use Rattle.delta_apply.specs.declared.fault.ApplyFault.TheVariants as faults
-use Rattle.delta_apply.specs.Applying.{GoesFrom, IsAnswer, IsApplied, IsOfOtherBase, IsOlder, IsSomeCopy, LeadsOn, UnlessNoMemory}
+use Rattle.delta_apply.specs.Applying.{GoesFromHead, IsAnswer, IsApplied, IsOfOtherBase, IsOlder, IsSomeCopy, LeadsOn, UnlessApplyLacksMemory}
 use Rattle.delta_apply.specs.Walks.{IsPatchedCsv, IsPatchedJson}
 
 -- ---- a text is at most one copy and one delta
@@ -103,7 +103,7 @@ module _ (copied delta : Text) (sheet : Sheet) (form : Form) (short : length cop
   not_both bytes p q is other =
       let copies = same_copy sheet form copied short (copy_in bytes is.patched) (base_in p q other) in
       let deltas = same_delta sheet form delta small (delta_in bytes is.patched) (from_in p q other) in
-      let F : Form → Type 0 = λ f. GoesFrom f is.patched.base_head is.patched.head in
+      let F : Form → Type 0 = λ f. GoesFromHead f is.patched.base_head is.patched.head in
       let G : Form → Type 0 = λ f. SameHead f is.patched.base_head other.base_head in
       let H : Form → Type 0 = λ f. SameHead f is.patched.head other.head in
       other.differ (other.publication_is
@@ -163,8 +163,8 @@ module _ (copied delta : Text) (sheet : Sheet) (form : Form) (short : length cop
   one_answer (Err faults.OlderDelta) (Err faults.NoMemory) is also = absurd also
   one_answer (Err faults.NoMemory) s is also = absurd is
 
-  pub answers_alone : (r : Result Text ApplyFault) → UnlessNoMemory r (IsAnswer copied delta sheet form r)
-      → (other : Result Text ApplyFault) → IsAnswer copied delta sheet form other → UnlessNoMemory r (r ≡ other)
+  pub answers_alone : (r : Result Text ApplyFault) → UnlessApplyLacksMemory r (IsAnswer copied delta sheet form r)
+      → (other : Result Text ApplyFault) → IsAnswer copied delta sheet form other → UnlessApplyLacksMemory r (r ≡ other)
   answers_alone (Ok bytes) is other also = one_answer (Ok bytes) other is also
   answers_alone (Err faults.CopyNotRead) is other also = one_answer (Err faults.CopyNotRead) other is also
   answers_alone (Err faults.DeltaNotRead) is other also = one_answer (Err faults.DeltaNotRead) other is also
@@ -172,7 +172,7 @@ module _ (copied delta : Text) (sheet : Sheet) (form : Form) (short : length cop
   answers_alone (Err faults.OlderDelta) is other also = one_answer (Err faults.OlderDelta) other is also
   answers_alone (Err faults.NoMemory) is other also = tt
 
-  pub answer_leads_on : (r : Result Text ApplyFault) → UnlessNoMemory r (IsAnswer copied delta sheet form r) → LeadsOn copied delta sheet form r
+  pub answer_leads_on : (r : Result Text ApplyFault) → UnlessApplyLacksMemory r (IsAnswer copied delta sheet form r) → LeadsOn copied delta sheet form r
   answer_leads_on r is trail sound few p q base latest one order e_p e_q copy_is delta_is =
       let led = leads_with_heads trail sound few p p q base latest one (omega arith) order e_p e_q sheet form in
       let F : Text → Text → Type 0 = λ c d. IsApplied c d (copy_of q latest sheet form) sheet form in
@@ -184,7 +184,7 @@ module _ (copied delta : Text) (sheet : Sheet) (form : Form) (short : length cop
       } in
       answers_alone r is (Ok (copy_of q latest sheet form)) (subst (λ c. F c delta) (sym copy_is) (subst (λ d. F (copy_of p base sheet form) d) (sym delta_is) applied))
     where
-      from : (form : Form) (base head : Head) → base.publication ≡ head.from → GoesFrom form base head
+      from : (form : Form) (base head : Head) → base.publication ≡ head.from → GoesFromHead form base head
       from Form.Csv base head is = tt
       from Form.Json base head is = is
 
@@ -213,7 +213,7 @@ pub csv-widths : (bytes : Text) (sheet : Sheet) (read : DeltaRead) → IsDeltaRe
 csv-widths bytes sheet read is wide = let delta = is.1 (some_head 1) some_delta_head in delta.wide_is wide
 
 pub csv-answer : (copied delta : Text) (sheet : Sheet) (read : DeltaRead) → IsDeltaRead delta sheet Form.Csv read
-    → (r : Result Text ApplyFault) → IsPatchedCsv sheet copied read.wide read.changes r → UnlessNoMemory r (IsAnswer copied delta sheet Form.Csv r)
+    → (r : Result Text ApplyFault) → IsPatchedCsv sheet copied read.wide read.changes r → UnlessApplyLacksMemory r (IsAnswer copied delta sheet Form.Csv r)
 csv-answer copied delta sheet read is (Ok bytes) done = record {
   patched = record {
     base_head = some_head 0;
@@ -258,10 +258,10 @@ json-some_copy bytes sheet read is = record { head = is.0; wide = read.wide; row
 pub json-answer : (copied delta : Text) (sheet : Sheet) (base : CopyRead) (read : DeltaRead) → IsCopyRead copied sheet Form.Json base
     → IsDeltaRead delta sheet Form.Json read → (r : Result Text ApplyFault)
     → ((base_head head : Head) → base.head ≡ Some base_head → read.head ≡ Some head → IsPatchedJson base_head base.rows head read.changes r)
-    → UnlessNoMemory r (IsAnswer copied delta sheet Form.Json r)
+    → UnlessApplyLacksMemory r (IsAnswer copied delta sheet Form.Json r)
 json-answer copied delta sheet base read is also r each = by r (each is.0 also.0 is.1 also.1)
   where
-    by : (r : Result Text ApplyFault) → IsPatchedJson is.0 base.rows also.0 read.changes r → UnlessNoMemory r (IsAnswer copied delta sheet Form.Json r)
+    by : (r : Result Text ApplyFault) → IsPatchedJson is.0 base.rows also.0 read.changes r → UnlessApplyLacksMemory r (IsAnswer copied delta sheet Form.Json r)
     by (Ok bytes) done = record {
       patched = record {
         base_head = is.0;

@@ -7,15 +7,15 @@ use Rattle.std.proofs.lemmas.List.{append-nil, drop_at, length_push, nil_from_le
 use Rattle.std.proofs.lemmas.List.Elements.{All-head, All-nil, All-push, All-tail}
 use Rattle.copy_csv.specs.declared.rows.Change.{Change}
 use Rattle.register_words.specs.declared.sheets.Sheet.{Sheet}
-use Rattle.copy_csv.specs.Csv.{IsCsvCopy, line, row_line}
-use Rattle.copy_csv.specs.Rows.{AreChanges, AreRising, IsRowIn}
+use Rattle.copy_csv.specs.Csv.{IsCsvCopy, csv_line, row_line}
+use Rattle.copy_csv.specs.Rows.{AreChanges, IsRowIn, KeysRise}
 use Rattle.copy_csv.specs.Sheets.{SheetRow, key, names_shown}
-use Rattle.copy_csv.specs.Taking.{AreRead, HasLines, Reads, comes_after, is_behind}
+use Rattle.copy_csv.specs.Taking.{AreReadFrom, HasLines, ReadsNext, comes_after, is_after_all}
 use Rattle.copy_csv.proofs.FileLemmas.{copy-found, copy-is, copy_names, one_width}
 use Rattle.copy_csv.proofs.LineLemmas.{row-one_way, row-some}
 use Rattle.copy_csv.proofs.RowLemmas.{none_next, not_behind, printed-push, rising-nil, rising-push}
 use Rattle.copy_forms.specs.Patching.{patched}
-use Rattle.copy_forms.specs.Merging.{PassesRow, merged, put_by}
+use Rattle.copy_forms.specs.Merging.{PassesRow, put_by, rows_with_changes}
 use Rattle.delta_apply.specs.Walks.{AreLinesPatched, IsCopyPatched, PutsLines}
 use Rattle.copy_forms.proofs.Merged.{merged_is}
 
@@ -24,12 +24,12 @@ pub record Walked (sheet : Sheet) (base_wide wide : Bool) (bytes : List ℕ) (ch
   pub rows : List SheetRow
   pub printed : bytes ≡ flat_map (row_line base_wide) rows ++ reader
   pub good : All (IsRowIn sheet base_wide) rows
-  pub rising : AreRising (map key rows)
+  pub rising : KeysRise (map key rows)
   pub utf8 : IsUtf8 reader
   pub last_is : last ≡ slice_get rows (length rows - 1)
   pub within : next ≤ length changes
   pub walk : (more : List SheetRow)
-      → out ++ flat_map (row_line wide) (merged more (drop next changes)) ≡ first ++ flat_map (row_line wide) (merged (rows ++ more) changes)
+      → out ++ flat_map (row_line wide) (rows_with_changes more (drop next changes)) ≡ first ++ flat_map (row_line wide) (rows_with_changes (rows ++ more) changes)
 
 pub walk-begins : (sheet : Sheet) (base_wide wide : Bool) (bytes : List ℕ) (changes : List Change) (first reader : List ℕ) → IsUtf8 bytes → reader ≡ bytes
     → Walked sheet base_wide wide bytes changes first reader None 0 first
@@ -56,10 +56,10 @@ last_pushed rows row =
 
 module _ (sheet : Sheet) (base_wide wide : Bool) (bytes : List ℕ) (changes : List Change) (first reader : List ℕ) (last : Option SheetRow) (next : ℕ) (out : List ℕ)
     (walked : Walked sheet base_wide wide bytes changes first reader last next out) where
-  behind-is : (row : SheetRow) → comes_after key last row ≡ is_behind key walked.rows row
+  behind-is : (row : SheetRow) → comes_after key last row ≡ is_after_all key walked.rows row
   behind-is row = ap (λ o. comes_after key o row) walked.last_is
 
-  pub walk-steps : (row : SheetRow) (reader' : List ℕ) (next' : ℕ) (out' : List ℕ) → Reads (row_line base_wide) (IsRowIn sheet base_wide) reader (Some row) reader'
+  pub walk-steps : (row : SheetRow) (reader' : List ℕ) (next' : ℕ) (out' : List ℕ) → ReadsNext (row_line base_wide) (IsRowIn sheet base_wide) reader (Some row) reader'
       → IsUtf8 reader' → comes_after key last row ≡ true → next' ≤ length changes → PassesRow (row_line wide) changes row next out next' out'
       → Walked sheet base_wide wide bytes changes first reader' (Some row) next' out'
   walk-steps row reader' next' out' read utf8 after within passes = record {
@@ -71,12 +71,12 @@ module _ (sheet : Sheet) (base_wide wide : Bool) (bytes : List ℕ) (changes : L
     last_is = sym (last_pushed walked.rows row);
     within = within;
     walk = λ more. passes more ∙ walked.walk (row ∷ more)
-        ∙ ap (λ l. first ++ flat_map (row_line wide) (merged l changes)) (sym (append_assoc walked.rows (row ∷ []) more));
+        ∙ ap (λ l. first ++ flat_map (row_line wide) (rows_with_changes l changes)) (sym (append_assoc walked.rows (row ∷ []) more));
   }
 
   -- the row stays, and the line that is put for it is its line in the delta's width
   pub walk-keeps : (row : SheetRow) (reader' : List ℕ) (next' : ℕ) (stays : Bool) (mid kept out' : List ℕ)
-      → Reads (row_line base_wide) (IsRowIn sheet base_wide) reader (Some row) reader' → IsUtf8 reader' → comes_after key last row ≡ true
+      → ReadsNext (row_line base_wide) (IsRowIn sheet base_wide) reader (Some row) reader' → IsUtf8 reader' → comes_after key last row ≡ true
       → next' ≤ length changes → PassesRow (row_line wide) changes row next out next' (mid ++ (if stays then row_line wide row else []))
       → stays ≡ true → kept ≡ row_line wide row → out' ≡ mid ++ kept
       → Walked sheet base_wide wide bytes changes first reader' (Some row) next' out'
@@ -87,7 +87,7 @@ module _ (sheet : Sheet) (base_wide wide : Bool) (bytes : List ℕ) (changes : L
 
   -- a change with the row's key takes its place
   pub walk-replaces : (row : SheetRow) (reader' : List ℕ) (next' : ℕ) (stays : Bool) (mid out' : List ℕ)
-      → Reads (row_line base_wide) (IsRowIn sheet base_wide) reader (Some row) reader' → IsUtf8 reader' → comes_after key last row ≡ true
+      → ReadsNext (row_line base_wide) (IsRowIn sheet base_wide) reader (Some row) reader' → IsUtf8 reader' → comes_after key last row ≡ true
       → next' ≤ length changes → PassesRow (row_line wide) changes row next out next' (mid ++ (if stays then row_line wide row else []))
       → stays ≡ false → out' ≡ mid → Walked sheet base_wide wide bytes changes first reader' (Some row) next' out'
   walk-replaces row reader' next' stays mid out' read utf8 after within passes gone same =
@@ -96,14 +96,14 @@ module _ (sheet : Sheet) (base_wide wide : Bool) (bytes : List ℕ) (changes : L
       walk-steps row reader' next' out' read utf8 after within (subst (PassesRow (row_line wide) changes row next out next') all passes)
 
   -- if no row comes next, the bytes aren't the lines of rows
-  pub walk-unread : (new : List ℕ) → 0 < length reader → Reads (row_line base_wide) (IsRowIn sheet base_wide) reader None new
-      → (rows : List SheetRow) → AreRead (row_line base_wide) (IsRowIn sheet base_wide) key bytes rows → ⊥
+  pub walk-unread : (new : List ℕ) → 0 < length reader → ReadsNext (row_line base_wide) (IsRowIn sheet base_wide) reader None new
+      → (rows : List SheetRow) → AreReadFrom (row_line base_wide) (IsRowIn sheet base_wide) key bytes rows → ⊥
   walk-unread new some none =
       none_next (row_line base_wide) (IsRowIn sheet base_wide) key (row-one_way sheet base_wide) (row-some sheet base_wide) bytes walked.rows reader new walked.good walked.printed some none
 
   -- and neither are they if the key of the next row doesn't rise
-  pub walk-falls : (row : SheetRow) (new : List ℕ) → Reads (row_line base_wide) (IsRowIn sheet base_wide) reader (Some row) new → comes_after key last row ≡ false
-      → (rows : List SheetRow) → AreRead (row_line base_wide) (IsRowIn sheet base_wide) key bytes rows → ⊥
+  pub walk-falls : (row : SheetRow) (new : List ℕ) → ReadsNext (row_line base_wide) (IsRowIn sheet base_wide) reader (Some row) new → comes_after key last row ≡ false
+      → (rows : List SheetRow) → AreReadFrom (row_line base_wide) (IsRowIn sheet base_wide) key bytes rows → ⊥
   walk-falls row new read after =
       not_behind (row_line base_wide) (IsRowIn sheet base_wide) key (row-one_way sheet base_wide) (row-some sheet base_wide) bytes walked.rows row reader new walked.good walked.printed read
       (sym (behind-is row) ∙ after)
@@ -147,12 +147,12 @@ module _ (sheet : Sheet) (base_wide wide : Bool) (bytes : List ℕ) (changes : L
           good = walked.good;
           rising = walked.rising;
         };
-        put = put ∙ walked.walk [] ∙ ap (λ l. first ++ flat_map (row_line wide) (merged l changes)) (append-nil walked.rows);
+        put = put ∙ walked.walk [] ∙ ap (λ l. first ++ flat_map (row_line wide) (rows_with_changes l changes)) (append-nil walked.rows);
       }
 
 -- all lines that follow the first one
 pub lines-patched : (sheet : Sheet) (base_wide wide : Bool) (lines : List ℕ) (changes : List Change) (first out : List ℕ)
-    → first ≡ line (names_shown wide sheet) → AreChanges sheet changes → PutsLines sheet base_wide wide lines changes first out
+    → first ≡ csv_line (names_shown wide sheet) → AreChanges sheet changes → PutsLines sheet base_wide wide lines changes first out
     → AreLinesPatched sheet base_wide wide lines changes out
 lines-patched sheet base_wide wide lines changes first out head are puts = record {
   rows = puts.rows;

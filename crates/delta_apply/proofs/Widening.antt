@@ -7,7 +7,7 @@ use Rattle.std.proofs.lemmas.List.{length_push, take_at}
 use Rattle.register_words.specs.declared.sheets.Sheet.{Sheet}
 use Rattle.copy_csv.specs.Csv.{after_comma, row_line, row_start}
 use Rattle.copy_csv.specs.Rows.{IsRowIn}
-use Rattle.copy_csv.specs.Sheets.{SheetRow, columns, has_widths, width}
+use Rattle.copy_csv.specs.Sheets.{SheetRow, column_count, has_widths, width}
 use Rattle.copy_csv.proofs.LineLemmas.{row-joined, tail-empty}
 use Rattle.delta_apply.specs.Walks.{kept_line}
 
@@ -15,7 +15,7 @@ abbrev lacked : List ℕ
 lacked = codes ",\"\",\"\",\"\",\"\"\n"
 
 -- the columns that a narrow file of `lei` lacks, if they are empty
-lacked-is : flat_map after_comma (replicate (width Sheet.Lei - columns false Sheet.Lei) []) ++ 10 ∷ [] ≡ lacked
+lacked-is : flat_map after_comma (replicate (width Sheet.Lei - column_count false Sheet.Lei) []) ++ 10 ∷ [] ≡ lacked
 lacked-is = refl
 
 -- if a narrow file loses nothing of a row, the row's line in a wide file is that line with these columns before its LF

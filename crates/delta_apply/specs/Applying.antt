@@ -8,7 +8,7 @@ use Rattle.register_words.specs.declared.sheets.Sheet.{Sheet}
 use Rattle.copy_csv.specs.Sheets.{SheetRow}
 use Rattle.copy_forms.specs.Files.{IsCopy, IsDelta}
 use Rattle.copy_forms.specs.Patching.{IsPatched}
-use Rattle.copy_forms.specs.Trails.{IsSound, Publication, Trail, copy_of, delta_between, publication_at}
+use Rattle.copy_forms.specs.Trails.{IsSoundTrail, Publication, Trail, copy_of, delta_between, publication_at}
 use Rattle.delta_apply.specs.declared.fault.ApplyFault.{ApplyFault}
 use Rattle.delta_apply.specs.declared.fault.ApplyFault.TheVariants as faults
 
@@ -30,15 +30,15 @@ IsNoDelta bytes sheet form =
     (head : Head) (wide : Bool) (changes : List Change) → IsDelta bytes sheet form head wide changes → ⊥
 
 -- In JSON, a delta starts from the publication of the copy. In CSV no head is printed, so there is no condition.
-abbrev pub GoesFrom : Form → Head → Head → Type 0
-GoesFrom Form.Csv base head = ⊤
-GoesFrom Form.Json base head = base.publication ≡ head.from
+abbrev pub GoesFromHead : Form → Head → Head → Type 0
+GoesFromHead Form.Csv base head = ⊤
+GoesFromHead Form.Json base head = base.publication ≡ head.from
 
 -- The bytes are the copy after the delta, in the delta's width, which isn't narrower than the copy's. In JSON the delta
 -- starts from the copy's publication.
 pub record IsApplied (copy delta bytes : Text) (sheet : Sheet) (form : Form) : Type 0 where
   pub patched : IsPatched copy delta bytes sheet form
-  pub goes_from : GoesFrom form patched.base_head patched.head
+  pub goes_from : GoesFromHead form patched.base_head patched.head
 
 -- The two are a copy and a delta in JSON, and the delta starts from another publication than the copy's.
 pub record IsOfOtherBase (copy delta : Text) (sheet : Sheet) (form : Form)
@@ -80,20 +80,20 @@ IsAnswer copy delta sheet form (Err faults.OlderDelta) = IsOlder copy delta shee
 IsAnswer copy delta sheet form (Err faults.NoMemory) = ⊥
 
 -- This holds, unless memory ran out.
-abbrev pub UnlessNoMemory : Result Text ApplyFault → Type 0 → Type 0
-UnlessNoMemory (Ok bytes) P = P
-UnlessNoMemory (Err faults.CopyNotRead) P = P
-UnlessNoMemory (Err faults.DeltaNotRead) P = P
-UnlessNoMemory (Err (faults.WrongBase publication from)) P = P
-UnlessNoMemory (Err faults.OlderDelta) P = P
-UnlessNoMemory (Err faults.NoMemory) P = ⊤
+abbrev pub UnlessApplyLacksMemory : Result Text ApplyFault → Type 0 → Type 0
+UnlessApplyLacksMemory (Ok bytes) P = P
+UnlessApplyLacksMemory (Err faults.CopyNotRead) P = P
+UnlessApplyLacksMemory (Err faults.DeltaNotRead) P = P
+UnlessApplyLacksMemory (Err (faults.WrongBase publication from)) P = P
+UnlessApplyLacksMemory (Err faults.OlderDelta) P = P
+UnlessApplyLacksMemory (Err faults.NoMemory) P = ⊤
 
 -- Take the copy of a publication of a sound trail, and the delta from it to the same or a later one. Unless memory ran
 -- out, the result is the copy of that one, byte for byte.
 abbrev pub LeadsOn : Text → Text → Sheet → Form → Result Text ApplyFault → Type 0
 LeadsOn copy delta sheet form result =
-    (trail : Trail) → IsSound trail → length trail ≤ 1_000_000
+    (trail : Trail) → IsSoundTrail trail → length trail ≤ 1_000_000
     → (p q : ℕ) (base latest : Publication) → 1 ≤ p → p ≤ q → publication_at trail p ≡ Some base
     → publication_at trail q ≡ Some latest
     → copy ≡ copy_of p base sheet form → delta ≡ delta_between trail p q latest sheet form
-    → UnlessNoMemory result (result ≡ Ok (copy_of q latest sheet form))
+    → UnlessApplyLacksMemory result (result ≡ Ok (copy_of q latest sheet form))

@@ -7,12 +7,12 @@ use Rattle.register_words.specs.declared.sheets.Sheet.{Sheet}
 use Rattle.copy_csv.specs.Csv.{IsCsvCopy, csv_copy, row_line}
 use Rattle.copy_csv.specs.Rows.{IsRowIn}
 use Rattle.copy_csv.specs.Sheets.{SheetRow, key}
-use Rattle.copy_csv.specs.Taking.{AreRead}
+use Rattle.copy_csv.specs.Taking.{AreReadFrom}
 use Rattle.copy_forms.specs.Json.{json_copy}
 use Rattle.copy_forms.specs.Patching.{patched, patched_head}
 use Rattle.delta_apply.specs.declared.fault.ApplyFault.{ApplyFault}
 use Rattle.delta_apply.specs.declared.fault.ApplyFault.TheVariants as faults
-use Rattle.copy_forms.specs.Merging.{merged}
+use Rattle.copy_forms.specs.Merging.{rows_with_changes}
 
 -- ---- in CSV
 
@@ -26,15 +26,15 @@ kept_line true line = take (length line - 1) line ++ codes ",\"\",\"\",\"\",\"\"
 pub record PutsLines (sheet : Sheet) (base_wide wide : Bool) (bytes : Text) (changes : List Change)
     (old new : Text) : Type 0 where
   pub rows : List SheetRow
-  pub are : AreRead (row_line base_wide) (IsRowIn sheet base_wide) key bytes rows
-  pub put : new ≡ old ++ flat_map (row_line wide) (merged rows changes)
+  pub are : AreReadFrom (row_line base_wide) (IsRowIn sheet base_wide) key bytes rows
+  pub put : new ≡ old ++ flat_map (row_line wide) (rows_with_changes rows changes)
 
 -- The lines are those of rows of a sheet in the base's width, whose keys rise. The bytes are the copy of these rows
 -- after the changes, in the delta's width.
 pub record AreLinesPatched (sheet : Sheet) (base_wide wide : Bool) (lines : Text) (changes : List Change)
     (bytes : Text) : Type 0 where
   pub rows : List SheetRow
-  pub are : AreRead (row_line base_wide) (IsRowIn sheet base_wide) key lines rows
+  pub are : AreReadFrom (row_line base_wide) (IsRowIn sheet base_wide) key lines rows
   pub bytes_are : bytes ≡ csv_copy sheet wide (patched rows changes)
 
 -- The first text is a copy in CSV, not wider than the delta. The bytes are the copy of its rows after the changes, in

@@ -5,7 +5,7 @@ ghost use Rattle.register_words.specs.declared.sheets.Form.{Form};
 ghost use Rattle.copy_csv.specs.declared.heads.Head.{Head as DeclaredHead};
 ghost use Rattle.copy_csv.specs.Rows.{AreChanges, AreRows};
 ghost use Rattle.delta_apply.specs.declared.fault.ApplyFault.{ApplyFault as Fault};
-ghost use Rattle.delta_apply.specs.Applying.{IsAnswer, IsNoDelta, LeadsOn, UnlessNoMemory};
+ghost use Rattle.delta_apply.specs.Applying.{IsAnswer, IsNoDelta, LeadsOn, UnlessApplyLacksMemory};
 ghost use Rattle.delta_apply.specs.Walks.{IsPatchedJson};
 
 use crate::csv::patch_csv;
@@ -27,9 +27,9 @@ pub fn apply(
     sheet: Sheet,
     form: Form,
 ) -> Result<Bytes, ApplyFault>
-    ensures answer { UnlessNoMemory result (IsAnswer copy.now delta.now sheet form result) }
+    ensures answer { UnlessApplyLacksMemory result (IsAnswer copy.now delta.now sheet form result) }
     ensures only { (other : Results Text Fault) → IsAnswer copy.now delta.now sheet form other
-        → UnlessNoMemory result (result ≡ other) }
+        → UnlessApplyLacksMemory result (result ≡ other) }
     ensures leads_on { LeadsOn copy.now delta.now sheet form result }
 {
     match form {
@@ -39,7 +39,7 @@ pub fn apply(
 }
 
 fn apply_in_csv(alloc: Global, copy: &[u8], delta: &[u8], sheet: Sheet) -> Result<Bytes, ApplyFault>
-    ensures { UnlessNoMemory result (IsAnswer copy.now delta.now sheet Form.Csv result) }
+    ensures { UnlessApplyLacksMemory result (IsAnswer copy.now delta.now sheet Form.Csv result) }
 {
     let read = match read_delta(alloc, delta, sheet, Form::Csv) {
         Ok(read) => read,
@@ -53,7 +53,7 @@ fn apply_in_csv(alloc: Global, copy: &[u8], delta: &[u8], sheet: Sheet) -> Resul
 // The result in CSV if the delta isn't one.
 fn answer_unread(alloc: Global, copy: &[u8], sheet: Sheet) -> Result<Bytes, ApplyFault>
     ensures { (delta : Text) → IsNoDelta delta sheet Form.Csv
-        → UnlessNoMemory result (IsAnswer copy.now delta sheet Form.Csv result) }
+        → UnlessApplyLacksMemory result (IsAnswer copy.now delta sheet Form.Csv result) }
 {
     match read_copy(alloc, copy, sheet, Form::Csv) {
         Ok(read) => {
@@ -71,7 +71,7 @@ fn apply_in_json(
     delta: &[u8],
     sheet: Sheet,
 ) -> Result<Bytes, ApplyFault>
-    ensures { UnlessNoMemory result (IsAnswer copy.now delta.now sheet Form.Json result) }
+    ensures { UnlessApplyLacksMemory result (IsAnswer copy.now delta.now sheet Form.Json result) }
 {
     let base = match read_copy(alloc, copy, sheet, Form::Json) {
         Ok(read) => read,

@@ -8,7 +8,7 @@ ghost use Rattle.copy_csv.specs.declared.rows.Change.{Change as Changed};
 ghost use Rattle.copy_csv.specs.Csv.{row_line};
 ghost use Rattle.copy_csv.specs.Rows.{AreChanges, IsChangeOf, IsRowIn, changed_row};
 ghost use Rattle.copy_csv.specs.Sheets.{SheetRow, has_widths, key, names_shown};
-ghost use Rattle.copy_csv.specs.Taking.{AreRead, HasLines, comes_after};
+ghost use Rattle.copy_csv.specs.Taking.{AreReadFrom, HasLines, comes_after};
 ghost use Rattle.copy_forms.specs.Merging.{PassesRow, put_by};
 ghost use Rattle.delta_apply.specs.Walks.{AreLinesPatched, IsPatchedCsv, PutsLines, kept_line};
 
@@ -78,7 +78,7 @@ fn patch_lines(
     ensures found { IfOk result
         (λ bytes. AreLinesPatched sheet base_wide delta.now.wide lines.now delta.now.changes bytes) }
     ensures only { IsErrOf result FormFault.NotRead → (rows : Items SheetRow)
-        → AreRead (row_line base_wide) (IsRowIn sheet base_wide) key lines.now rows → ⊥ }
+        → AreReadFrom (row_line base_wide) (IsRowIn sheet base_wide) key lines.now rows → ⊥ }
 {
     let head = copy_head(alloc, sheet, delta.wide)?;
     let room = room.saturating_add(wider_by(lines, base_wide != delta.wide));
@@ -113,7 +113,7 @@ fn put_patched(
     ensures found { OnOk result (PutsLines sheet base_wide delta.now.wide bytes.now delta.now.changes
         out.old.items out.new.items) }
     ensures only { IsErrOf result FormFault.NotRead → (rows : Items SheetRow)
-        → AreRead (row_line base_wide) (IsRowIn sheet base_wide) key bytes.now rows → ⊥ }
+        → AreReadFrom (row_line base_wide) (IsRowIn sheet base_wide) key bytes.now rows → ⊥ }
 {
     let widens = base_wide != delta.wide;
     let changes = delta.changes.as_slice();

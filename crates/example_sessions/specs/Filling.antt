@@ -1,10 +1,10 @@
 -- Texts in which `<NAME ARGUMENT ..>` means another text.
 use Rattle.std.specs.Prelude.{ℕ, List, [], ◌∷◌, length, flat_map, slice_get, codes, if◌then◌else◌, Option, Some, None, option_map}
 use Rattle.std.specs.Str.{bytes_eq}
-use Rattle.example_sessions.specs.Cuts.{cut, pieces}
-use Rattle.example_sessions.specs.Numbers.{number}
-use Rattle.example_sessions.specs.Reading.{behind}
-use Rattle.example_sessions.specs.Texts.{text_named, index_of}
+use Rattle.example_sessions.specs.Cuts.{cut_at_byte, pieces_at_byte}
+use Rattle.example_sessions.specs.Numbers.{number_in_text}
+use Rattle.example_sessions.specs.Reading.{append_both}
+use Rattle.example_sessions.specs.Texts.{text_named, index_among}
 use Rattle.example_sessions.specs.declared.texts.Part.{Part}
 use Rattle.example_sessions.specs.declared.texts.Part.TheVariants.{Plain, Hole}
 use Rattle.example_sessions.specs.declared.texts.Named.{Named}
@@ -22,7 +22,7 @@ hole_or parts (Some index) = Hole index ∷ []
 -- an argument: the hole of the parameter with that name, the known text with that name, or the word itself
 abbrev pub argument_parts : List Named → List (List ℕ) → List ℕ → List Part
 argument_parts known parameters word = hole_or (parts_or word (text_named known word 0))
-    (index_of parameters word)
+    (index_among parameters word)
 
 -- the parts of an argument that is given, and none if it isn't given
 abbrev pub given_parts : List Named → List (List ℕ) → Option (List ℕ) → List Part
@@ -42,7 +42,7 @@ parts_with known parameters arguments parts = flat_map (part_with known paramete
 abbrev pub byte_parts : List ℕ → List (List ℕ) → Option (List Part)
 byte_parts name [] = None
 byte_parts name (text ∷ []) =
-    if bytes_eq name (codes "byte") then option_map (λ byte. Plain (byte ∷ []) ∷ []) (number 255 text) else None
+    if bytes_eq name (codes "byte") then option_map (λ byte. Plain (byte ∷ []) ∷ []) (number_in_text 255 text) else None
 byte_parts name (text ∷ other ∷ others) = None
 
 -- what a name with arguments means: a known text, or else a byte
@@ -58,40 +58,40 @@ hole_or_text parts None = parts
 hole_or_text parts (Some index) = Some (Hole index ∷ [])
 
 -- what a name without arguments means
-abbrev pub alone : List Named → List (List ℕ) → List ℕ → Option (List Part)
-alone known parameters name =
-    hole_or_text (parts_of_text known parameters name [] (text_named known name 0)) (index_of parameters name)
+abbrev pub plain_name : List Named → List (List ℕ) → List ℕ → Option (List Part)
+plain_name known parameters name =
+    hole_or_text (parts_of_text known parameters name [] (text_named known name 0)) (index_among parameters name)
 
 -- What the words between `<` and `>` mean: the hole of the parameter with that name, the known text with that name and
 -- these arguments, or a byte.
-abbrev pub meant : List Named → List (List ℕ) → List (List ℕ) → Option (List Part)
-meant known parameters [] = None
-meant known parameters (name ∷ []) = alone known parameters name
-meant known parameters (name ∷ word ∷ words) =
+abbrev pub parts_of_words : List Named → List (List ℕ) → List (List ℕ) → Option (List Part)
+parts_of_words known parameters [] = None
+parts_of_words known parameters (name ∷ []) = plain_name known parameters name
+parts_of_words known parameters (name ∷ word ∷ words) =
     parts_of_text known parameters name (word ∷ words) (text_named known name (length (word ∷ words)))
 
 -- the parts of a piece that was cut at its `>`
 abbrev pub piece_cut : List Named → List (List ℕ) → Option (List ℕ × List ℕ) → Option (List Part)
 piece_cut known parameters None = None
-piece_cut known parameters (Some parts) = behind (meant known parameters (pieces 32 parts.0))
+piece_cut known parameters (Some parts) = append_both (parts_of_words known parameters (pieces_at_byte 32 parts.0))
     (Some (Plain parts.1 ∷ []))
 
 -- a piece after a `<`: the words before the first `>`, and the text after it
 abbrev pub piece_parts : List Named → List (List ℕ) → List ℕ → Option (List Part)
-piece_parts known parameters piece = piece_cut known parameters (cut 62 piece)
+piece_parts known parameters piece = piece_cut known parameters (cut_at_byte 62 piece)
 
 -- the parts of pieces in order
 abbrev pub pieces_parts : List Named → List (List ℕ) → List (List ℕ) → Option (List Part)
 pieces_parts known parameters [] = Some []
 pieces_parts known parameters (piece ∷ others) =
-    behind (piece_parts known parameters piece) (pieces_parts known parameters others)
+    append_both (piece_parts known parameters piece) (pieces_parts known parameters others)
 
 -- the parts of a text that was cut at each `<`: the plain text before the first, and then the pieces
 abbrev pub parts_from : List Named → List (List ℕ) → List (List ℕ) → Option (List Part)
 parts_from known parameters [] = Some []
-parts_from known parameters (first ∷ others) = behind (Some (Plain first ∷ []))
+parts_from known parameters (first ∷ others) = append_both (Some (Plain first ∷ []))
     (pieces_parts known parameters others)
 
 -- the parts of a text with these parameters, if these texts are known
 unfoldable pub text_parts : List Named → List (List ℕ) → List ℕ → Option (List Part)
-text_parts known parameters text = parts_from known parameters (pieces 60 text)
+text_parts known parameters text = parts_from known parameters (pieces_at_byte 60 text)

@@ -10,8 +10,8 @@ number_after most n (c ∷ cs) =
     (n * 10 + (c - 48)) cs else None
 
 -- the number that a text of decimal digits writes, if it is at most this. The empty text writes 0.
-abbrev pub number : ℕ → List ℕ → Option ℕ
-number most text = number_after most 0 text
+abbrev pub number_in_text : ℕ → List ℕ → Option ℕ
+number_in_text most text = number_after most 0 text
 
 -- the last decimal digits of a number, as many as this
 unfoldable pub last_digits : ℕ → ℕ → List ℕ
@@ -20,5 +20,5 @@ last_digits (suc count) n = last_digits count (n / 10) ++ (48 + n % 10) ∷ []
 
 -- The code whose first 18 characters are this number: its last two are 98 minus the remainder modulo 97 of the number
 -- followed by 00 (ISO 17442-1, ISO/IEC 7064).
-abbrev pub code_of : ℕ → List ℕ
-code_of n = last_digits 20 (n * 100 + (98 - n * 100 % 97))
+abbrev pub example_code : ℕ → List ℕ
+example_code n = last_digits 20 (n * 100 + (98 - n * 100 % 97))

@@ -3,9 +3,9 @@ use Rattle.std.specs.Prelude.{ℕ, ◌+◌, ◌-◌, ◌==◌, ℤ, List, [], �
 use Rattle.std.specs.List.{range_with_len}
 use Rattle.std.specs.Str.{bytes_eq}
 use Rattle.lei_shapes.specs.Moment.{read_moment}
-use Rattle.example_sessions.specs.Cuts.{cut, pieces}
-use Rattle.example_sessions.specs.Numbers.{number, code_of}
-use Rattle.example_sessions.specs.Texts.{filled}
+use Rattle.example_sessions.specs.Cuts.{cut_at_byte, pieces_at_byte}
+use Rattle.example_sessions.specs.Numbers.{number_in_text, example_code}
+use Rattle.example_sessions.specs.Texts.{fill_holes}
 use Rattle.example_sessions.specs.Filling.{text_parts}
 use Rattle.example_sessions.specs.declared.run.Change.{Change}
 use Rattle.example_sessions.specs.declared.run.RulesChange.{RulesChange}
@@ -39,15 +39,15 @@ pub record SessionState : Type 0 where
 -- ---- the lines of a run
 
 -- the word `""` is the empty one
-abbrev pub word_of : List ℕ → List ℕ
-word_of text = if bytes_eq text (codes "\"\"") then [] else text
+abbrev pub first_word_of : List ℕ → List ℕ
+first_word_of text = if bytes_eq text (codes "\"\"") then [] else text
 
 -- the run of a command's words; the first word names the program
 abbrev pub run_of_words : List (List ℕ) → Option RunState
 run_of_words [] = None
 run_of_words (program ∷ words) = if bytes_eq program (codes "./leireg")
     then Some (record {
-      words = map word_of words;
+      words = map first_word_of words;
       changes = [];
       rules = [];
       moments = [];
@@ -62,19 +62,19 @@ run_of_words (program ∷ words) = if bytes_eq program (codes "./leireg")
 
 -- `$ ./leireg WORD ..`: a run with these words, which sends nothing
 abbrev pub run_of : List ℕ → Option RunState
-run_of command = run_of_words (pieces 32 command)
+run_of command = run_of_words (pieces_at_byte 32 command)
 
 -- `changed N TEXT`: before the run, the stored answer of the entry with this number is changed to this text
 abbrev pub with_change : RunState → List ℕ → Option RunState
 with_change run rest = option_and_then (λ parts.
     option_map (λ n. record run { changes = run.changes ++ record { entry = n; answer = parts.1 } ∷ [] })
-    (number 1000000 parts.0)) (cut 32 rest)
+    (number_in_text 1000000 parts.0)) (cut_at_byte 32 rest)
 
 -- `rules N R`: before the run, the stored entry with this number is changed to one of these rules
 abbrev pub with_rules : RunState → List ℕ → Option RunState
 with_rules run rest = option_and_then (λ parts. option_and_then (λ n.
     option_map (λ rules. record run { rules = run.rules ++ record { entry = n; rules = rules } ∷ [] })
-    (number 255 parts.1)) (number 1000000 parts.0)) (cut 32 rest)
+    (number_in_text 255 parts.1)) (number_in_text 1000000 parts.0)) (cut_at_byte 32 rest)
 
 -- `at MOMENT`: the next moment of the clock
 abbrev pub with_moment : RunState → List ℕ → Option RunState
@@ -83,11 +83,11 @@ with_moment run text = option_map (λ moment. record run { moments = run.moments
 
 -- `refuses N`: the N-th call of the keeper fails
 abbrev pub with_refused : RunState → List ℕ → Option RunState
-with_refused run text = option_map (λ n. record run { refused = run.refused ++ n ∷ [] }) (number 1000000 text)
+with_refused run text = option_map (λ n. record run { refused = run.refused ++ n ∷ [] }) (number_in_text 1000000 text)
 
 -- `status N`
 abbrev pub with_status : RunState → List ℕ → Option RunState
-with_status run text = option_map (λ status. record run { status = status }) (number 255 text)
+with_status run text = option_map (λ status. record run { status = status }) (number_in_text 255 text)
 
 -- bytes that are sent, with `>`, that the second file has, with `+`, or that must come back, with `<`
 abbrev pub with_bytes : RunState → List ℕ → List ℕ → Option RunState
@@ -104,13 +104,13 @@ abbrev pub front_of : List ℕ → List ℕ
 front_of text = if goes_on text then take (length text - 1) text else text
 
 -- the line end of a text: none if the text goes on
-abbrev pub end_of : List ℕ → List ℕ
-end_of text = if goes_on text then [] else 10 ∷ []
+abbrev pub line_end_of : List ℕ → List ℕ
+line_end_of text = if goes_on text then [] else 10 ∷ []
 
 -- `> TEXT`, `+ TEXT` or `< TEXT`
-abbrev pub with_text : List Named → RunState → List ℕ → List ℕ → Option RunState
-with_text known run sign text =
-    option_and_then (λ parts. with_bytes run sign (filled [] parts ++ end_of text))
+abbrev pub after_text : List Named → RunState → List ℕ → List ℕ → Option RunState
+after_text known run sign text =
+    option_and_then (λ parts. with_bytes run sign (fill_holes [] parts ++ line_end_of text))
     (text_parts known [] (front_of text))
 
 -- the names that a repeated line uses for its number, and what they stand for: the number, its code, and the code of
@@ -120,11 +120,11 @@ number_names = codes "NUMBER" ∷ codes "LEI" ∷ codes "BEFORE" ∷ []
 
 -- what these names stand for in the line for a number
 abbrev pub number_texts : ℕ → List (List ℕ)
-number_texts n = decimal n ∷ code_of n ∷ code_of (n - 1) ∷ []
+number_texts n = decimal n ∷ example_code n ∷ example_code (n - 1) ∷ []
 
 -- the bytes of a line for each of these numbers, in order
-abbrev pub repeated : List Part → List ℕ → List ℕ → List ℕ
-repeated parts end numbers = flat_map (λ n. filled (number_texts n) parts ++ end) numbers
+abbrev pub repeat_line : List Part → List ℕ → List ℕ → List ℕ
+repeat_line parts end numbers = flat_map (λ n. fill_holes (number_texts n) parts ++ end) numbers
 
 -- the numbers from the first to the last
 abbrev pub numbers_between : ℕ → ℕ → List ℕ
@@ -133,7 +133,7 @@ numbers_between first last = range_with_len first (last + 1 - first)
 -- a line for each number from the first to the last is sent, is in the second file or must come back
 abbrev pub with_repeated : List Named → RunState → ℕ → ℕ → List ℕ → List ℕ → Option RunState
 with_repeated known run first last sign text =
-    option_and_then (λ parts. with_bytes run sign (repeated parts (end_of text) (numbers_between first last)))
+    option_and_then (λ parts. with_bytes run sign (repeat_line parts (line_end_of text) (numbers_between first last)))
     (text_parts known number_names (front_of text))
 
 -- `each FIRST LAST > TEXT`, and the same for the two other signs
@@ -141,17 +141,17 @@ abbrev pub with_each : List Named → RunState → List ℕ → Option RunState
 with_each known run range =
     option_and_then (λ first. option_and_then (λ last. option_and_then (λ line.
     option_and_then (λ from. option_and_then (λ to. with_repeated known run from to line.0 line.1)
-    (number 1000000 last.0)) (number 1000000 first.0)) (cut 32 last.1)) (cut 32 first.1)) (cut 32 range)
+    (number_in_text 1000000 last.0)) (number_in_text 1000000 first.0)) (cut_at_byte 32 last.1)) (cut_at_byte 32 first.1)) (cut_at_byte 32 range)
 
 -- a line of a run that has started
-unfoldable pub with_line : List Named → RunState → List ℕ → List ℕ → Option RunState
-with_line known run word rest = if bytes_eq word (codes "changed") then with_change run rest
+unfoldable pub after_script_line : List Named → RunState → List ℕ → List ℕ → Option RunState
+after_script_line known run word rest = if bytes_eq word (codes "changed") then with_change run rest
     else (if bytes_eq word (codes "rules") then with_rules run rest
     else (if bytes_eq word (codes "at") then with_moment run rest
     else (if bytes_eq word (codes "refuses") then with_refused run rest
     else (if bytes_eq word (codes "status") then with_status run rest
     else (if bytes_eq word (codes "each") then with_each known run rest
-    else with_text known run word rest)))))
+    else after_text known run word rest)))))
 
 -- ---- the lines of a session
 
@@ -160,7 +160,7 @@ abbrev pub with_last : List Named → SessionState → List ℕ → List ℕ →
 with_last known session word rest None = None
 with_last known session word rest (Some run) =
     option_map (λ new. record session { runs = take (length session.runs - 1) session.runs ++ new ∷ [] })
-    (with_line known run word rest)
+    (after_script_line known run word rest)
 
 -- `# TEXT` says nothing, `$ ..` starts another run, and any other line belongs to the last run.
 abbrev pub by_word : List Named → SessionState → List ℕ → List ℕ → Option SessionState
@@ -177,4 +177,4 @@ by_cut known session line (Some parts) = by_word known session parts.0 parts.1
 -- a line of a session; an empty one says nothing
 unfoldable pub session_with : List Named → SessionState → List ℕ → Option SessionState
 session_with known session line = if length line == 0 then Some session else by_cut known session
-    line (cut 32 line)
+    line (cut_at_byte 32 line)

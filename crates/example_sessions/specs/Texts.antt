@@ -10,8 +10,8 @@ abbrev pub text_named : List Named → List ℕ → ℕ → Option Named
 text_named known name count = find (λ text. bytes_eq text.name name && text.parameters == count) known
 
 -- the index of a name among others
-abbrev pub index_of : List (List ℕ) → List ℕ → Option ℕ
-index_of names name = position (λ other. bytes_eq other name) names
+abbrev pub index_among : List (List ℕ) → List ℕ → Option ℕ
+index_among names name = position (λ other. bytes_eq other name) names
 
 -- a text, or the empty one if there is none
 abbrev pub or_nothing : Option (List ℕ) → List ℕ
@@ -24,5 +24,5 @@ part_bytes arguments (Plain bytes) = bytes
 part_bytes arguments (Hole index) = or_nothing (slice_get arguments index)
 
 -- the bytes of parts, with these texts in place of their holes
-abbrev pub filled : List (List ℕ) → List Part → List ℕ
-filled arguments parts = flat_map (part_bytes arguments) parts
+abbrev pub fill_holes : List (List ℕ) → List Part → List ℕ
+fill_holes arguments parts = flat_map (part_bytes arguments) parts

@@ -4,7 +4,7 @@ ghost use Rattle.example_sessions.specs.Numbers;
 
 /// The code whose first 18 characters are this number.
 pub fn code_of(number: u32) -> [u8; 20]
-    ensures { result ≡ Numbers.code_of number }
+    ensures { result ≡ Numbers.example_code number }
 {
     let front = u64::from(number) * 100;
     let mut rest = front + (98 - front % 97);

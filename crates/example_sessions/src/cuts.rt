@@ -8,7 +8,7 @@ use std::alloc::{AllocError, Global};
 /// The text before the first of these characters and the text after it, if there is one.
 pub fn cut(text: &str, at: char) -> Option<(&str, &str)>
     requires { at < 128 }
-    ensures { option_map (λ parts. (parts.0.now, parts.1.now)) result ≡ Cuts.cut at text.now }
+    ensures { option_map (λ parts. (parts.0.now, parts.1.now)) result ≡ Cuts.cut_at_byte at text.now }
 {
     text.split_once(at)
 }
@@ -16,7 +16,7 @@ pub fn cut(text: &str, at: char) -> Option<(&str, &str)>
 /// The pieces of a text between these characters, including empty ones.
 pub fn pieces(alloc: Global, text: &str, at: char) -> Result<Vec<Text>, NoMemory>
     requires { at < 128 }
-    ensures { IfOk result (λ found. found.items ≡ Cuts.pieces at text.now) }
+    ensures { IfOk result (λ found. found.items ≡ Cuts.pieces_at_byte at text.now) }
 {
     let texts = lent_pieces(alloc, text, at)?;
     copies_of(alloc, &texts)
@@ -24,7 +24,7 @@ pub fn pieces(alloc: Global, text: &str, at: char) -> Result<Vec<Text>, NoMemory
 
 fn lent_pieces(alloc: Global, text: &str, at: char) -> Result<Vec<&str>, AllocError>
     requires { at < 128 }
-    ensures { IfOk result (λ found. map (λ piece. piece.now) found.items ≡ Cuts.pieces at text.now) }
+    ensures { IfOk result (λ found. map (λ piece. piece.now) found.items ≡ Cuts.pieces_at_byte at text.now) }
 {
     text.split(at).collect(alloc)
 }

@@ -1,7 +1,7 @@
 //! Documents with named texts and sessions in them.
 ghost use Rattle.std.specs.Prelude.{◌≡◌, ◌↔◌, Some, None, IsTrue, IfOk, MatchResult};
 ghost use Rattle.example_sessions.specs.Documents;
-ghost use Rattle.example_sessions.specs.Reading.{Gives, Fails};
+ghost use Rattle.example_sessions.specs.Reading.{ExampleGives, ExampleFails};
 
 use crate::cuts::{cut, pieces};
 use crate::fault::Fault;
@@ -50,7 +50,7 @@ impl Document {
     /// What a document says, if these texts are known.
     pub fn read(alloc: Global, known: Vec<Named>, text: &str) -> Result<Self, LineFault>
         ensures { MatchResult result (λ document. Documents.document_of known.items text.now ≡ Some document)
-            (λ at. Fails at.fault (Documents.document_of known.items text.now)) }
+            (λ at. ExampleFails at.fault (Documents.document_of known.items text.now)) }
     {
         let document = Document {
             known,
@@ -77,14 +77,14 @@ impl Document {
     }
 
     fn is_open(&self) -> bool
-        ensures { IsTrue result ↔ (Documents.ended self.now ≡ None) }
+        ensures { IsTrue result ↔ (Documents.whole_document self.now ≡ None) }
     {
         !matches!(self.place, Place::Outside)
     }
 
     fn with_lines(self, alloc: Global, lines: &[Text]) -> Result<Self, LineFault>
         ensures { MatchResult result (λ document. Documents.after_lines self lines.now ≡ Some document)
-            (λ at. Fails at.fault (Documents.after_lines self lines.now)) }
+            (λ at. ExampleFails at.fault (Documents.after_lines self lines.now)) }
     {
         let mut document = self;
         for (index, line) in lines.iter().enumerate() {
@@ -101,7 +101,7 @@ impl Document {
 
     #[tactic(auto, unfolding(crate::specs::Documents::after_line))]
     fn with_line(self, alloc: Global, line: &str) -> Result<Self, Fault>
-        ensures { Gives (λ document. document) result (Documents.after_line self line.now) }
+        ensures { ExampleGives (λ document. document) result (Documents.after_line self line.now) }
     {
         let Document {
             known,
@@ -110,7 +110,7 @@ impl Document {
         } = self;
         let ends = line == "```";
         let (known, place) = match place {
-            Place::Outside => (known, begun(alloc, line)?),
+            Place::Outside => (known, block_place(alloc, line)?),
             Place::Texts if ends => (known, Place::Outside),
             Place::Texts => (known_after(alloc, known, line)?, Place::Texts),
             Place::Session(session) if ends => {
@@ -145,8 +145,8 @@ impl Document {
 }
 
 // What starts with a line that is outside texts and sessions.
-fn begun(alloc: Global, line: &str) -> Result<Place, NoMemory>
-    ensures { IfOk result (λ place. place ≡ Documents.begun line.now) }
+fn block_place(alloc: Global, line: &str) -> Result<Place, NoMemory>
+    ensures { IfOk result (λ place. place ≡ Documents.block_place line.now) }
 {
     match cut(line, ' ') {
         Some((word, title)) if word == "```session" => {
@@ -159,7 +159,7 @@ fn begun(alloc: Global, line: &str) -> Result<Place, NoMemory>
 
 // The known texts, with the one of this line.
 fn known_after(alloc: Global, known: Vec<Named>, line: &str) -> Result<Vec<Named>, Fault>
-    ensures { Gives (λ made. made.items) result (Documents.known_after known.items line.now) }
+    ensures { ExampleGives (λ made. made.items) result (Documents.known_after known.items line.now) }
 {
     let Some((head, text)) = cut(line, '=') else {
         return Err(Fault::Form);
@@ -174,7 +174,7 @@ fn known_with(
     words: &[Text],
     text: &str,
 ) -> Result<Vec<Named>, Fault>
-    ensures { Gives (λ made. made.items) result (Documents.known_with known.items words.now text.now) }
+    ensures { ExampleGives (λ made. made.items) result (Documents.known_with known.items words.now text.now) }
 {
     let [name, parameters @ ..] = words else {
         return Err(Fault::Form);

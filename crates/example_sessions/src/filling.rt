@@ -1,7 +1,7 @@
 //! Texts in which `<NAME ARGUMENT ..>` means another text.
 ghost use Rattle.std.specs.Prelude.{◌≡◌, ◌++◌, Some, length, IfOk};
 ghost use Rattle.example_sessions.specs.Filling;
-ghost use Rattle.example_sessions.specs.Reading.{Gives, behind};
+ghost use Rattle.example_sessions.specs.Reading.{ExampleGives, append_both};
 ghost use Rattle.example_sessions.specs.Texts;
 
 use crate::cuts::{cut, pieces};
@@ -19,7 +19,7 @@ pub fn text_parts(
     parameters: &[Text],
     text: &str,
 ) -> Result<Vec<Part>, Fault>
-    ensures { Gives (λ parts. parts.items) result
+    ensures { ExampleGives (λ parts. parts.items) result
         (Filling.text_parts known.now parameters.now text.now) }
 {
     let pieces = pieces(alloc, text, '<')?;
@@ -39,7 +39,7 @@ fn put_pieces(
     mut parts: Vec<Part>,
     pieces: &[Text],
 ) -> Result<Vec<Part>, Fault>
-    ensures { Gives (λ made. made.items) result (behind (Some parts.items)
+    ensures { ExampleGives (λ made. made.items) result (append_both (Some parts.items)
         (Filling.pieces_parts known.now parameters.now pieces.now)) }
 {
     for piece in pieces {
@@ -55,8 +55,8 @@ fn put_piece(
     parts: Vec<Part>,
     piece: &str,
 ) -> Result<Vec<Part>, Fault>
-    ensures { Gives (λ made. made.items) result
-        (behind (Some parts.items) (Filling.piece_parts known.now parameters.now piece.now)) }
+    ensures { ExampleGives (λ made. made.items) result
+        (append_both (Some parts.items) (Filling.piece_parts known.now parameters.now piece.now)) }
 {
     let Some((inside, after)) = cut(piece, '>') else {
         return Err(Fault::Form);
@@ -74,8 +74,8 @@ fn put_words(
     parts: Vec<Part>,
     words: &[Text],
 ) -> Result<Vec<Part>, Fault>
-    ensures { Gives (λ made. made.items) result (behind (Some parts.items)
-        (Filling.meant known.now parameters.now words.now)) }
+    ensures { ExampleGives (λ made. made.items) result (append_both (Some parts.items)
+        (Filling.parts_of_words known.now parameters.now words.now)) }
 {
     match words {
         [] => Err(Fault::Form),
@@ -93,8 +93,8 @@ fn put_alone(
     mut parts: Vec<Part>,
     name: &str,
 ) -> Result<Vec<Part>, Fault>
-    ensures { Gives (λ made. made.items) result
-        (behind (Some parts.items) (Filling.alone known.now parameters.now name.now)) }
+    ensures { ExampleGives (λ made. made.items) result
+        (append_both (Some parts.items) (Filling.plain_name known.now parameters.now name.now)) }
 {
     match index_of(parameters, name) {
         Some(index) => {
@@ -113,7 +113,7 @@ fn put_text(
     name: &str,
     arguments: &[Text],
 ) -> Result<Vec<Part>, Fault>
-    ensures { Gives (λ made. made.items) result (behind (Some parts.items)
+    ensures { ExampleGives (λ made. made.items) result (append_both (Some parts.items)
         (Filling.parts_of_text known.now parameters.now name.now arguments.now
         (Texts.text_named known.now name.now (length arguments.now)))) }
 {
@@ -132,8 +132,8 @@ fn put_byte(
     name: &str,
     arguments: &[Text],
 ) -> Result<Vec<Part>, Fault>
-    ensures { Gives (λ made. made.items) result
-        (behind (Some parts.items) (Filling.byte_parts name.now arguments.now)) }
+    ensures { ExampleGives (λ made. made.items) result
+        (append_both (Some parts.items) (Filling.byte_parts name.now arguments.now)) }
 {
     let [text] = arguments else {
         return Err(Fault::Form);

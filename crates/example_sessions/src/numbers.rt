@@ -4,7 +4,7 @@ ghost use Rattle.example_sessions.specs.Numbers;
 
 /// The number that a text of decimal digits writes, if it is at most this. The empty text writes 0.
 pub fn number_of(text: &str, most: u32) -> Option<u32>
-    ensures value { result ≡ Numbers.number most text.now }
+    ensures value { result ≡ Numbers.number_in_text most text.now }
     ensures within { IfSome result (λ n. n ≤ most) }
 {
     let mut number = 0u64;

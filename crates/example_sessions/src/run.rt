@@ -2,7 +2,7 @@
 ghost use Rattle.std.specs.Prelude.{◌≡◌, ◌++◌, ◌≤◌, [], map, IfOk, string_bytes};
 ghost use Rattle.lei_outside.specs.Keeping.{AreKept};
 ghost use Rattle.lei_outside.specs.Memory.{tables_of};
-ghost use Rattle.example_sessions.specs.Reading.{Gives};
+ghost use Rattle.example_sessions.specs.Reading.{ExampleGives};
 ghost use Rattle.example_sessions.specs.Sessions;
 ghost use Rattle.example_sessions.specs.Texts;
 
@@ -90,7 +90,7 @@ impl Model for Run {
 impl Run {
     /// The run of a command, `./leireg WORD ..`.
     pub fn of(alloc: Global, command: &str) -> Result<Self, Fault>
-        ensures { Gives (λ run. run) result (Sessions.run_of command.now) }
+        ensures { ExampleGives (λ run. run) result (Sessions.run_of command.now) }
     {
         let words = pieces(alloc, command, ' ')?;
         let [program, words @ ..] = words.as_slice() else {
@@ -193,7 +193,7 @@ impl Run {
     }
 
     /// The run after one more line, given as a word and the rest after it.
-    #[tactic(auto, unfolding(crate::specs::Sessions::with_line))]
+    #[tactic(auto, unfolding(crate::specs::Sessions::after_script_line))]
     pub fn with_line(
         self,
         alloc: Global,
@@ -201,7 +201,8 @@ impl Run {
         word: &str,
         rest: &str,
     ) -> Result<Self, Fault>
-        ensures { Gives (λ run. run) result (Sessions.with_line known.now self word.now rest.now) }
+        ensures { ExampleGives
+            (λ run. run) result (Sessions.after_script_line known.now self word.now rest.now) }
     {
         if word == "changed" {
             return self.with_change(alloc, rest);
@@ -225,7 +226,7 @@ impl Run {
     }
 
     fn with_change(mut self, alloc: Global, rest: &str) -> Result<Self, Fault>
-        ensures { Gives (λ run. run) result (Sessions.with_change self rest.now) }
+        ensures { ExampleGives (λ run. run) result (Sessions.with_change self rest.now) }
     {
         let Some((number, answer)) = cut(rest, ' ') else {
             return Err(Fault::Form);
@@ -242,7 +243,7 @@ impl Run {
     }
 
     fn with_rules(mut self, rest: &str) -> Result<Self, Fault>
-        ensures { Gives (λ run. run) result (Sessions.with_rules self rest.now) }
+        ensures { ExampleGives (λ run. run) result (Sessions.with_rules self rest.now) }
     {
         let Some((number, rules)) = cut(rest, ' ') else {
             return Err(Fault::Form);
@@ -261,7 +262,7 @@ impl Run {
     }
 
     fn with_moment(mut self, text: &str) -> Result<Self, Fault>
-        ensures { Gives (λ run. run) result (Sessions.with_moment self text.now) }
+        ensures { ExampleGives (λ run. run) result (Sessions.with_moment self text.now) }
     {
         let Some(moment) = Moment::read(text) else {
             return Err(Fault::Form);
@@ -271,7 +272,7 @@ impl Run {
     }
 
     fn with_refused(mut self, text: &str) -> Result<Self, Fault>
-        ensures { Gives (λ run. run) result (Sessions.with_refused self text.now) }
+        ensures { ExampleGives (λ run. run) result (Sessions.with_refused self text.now) }
     {
         let Some(number) = number_of(text, 1_000_000) else {
             return Err(Fault::Form);
@@ -281,7 +282,7 @@ impl Run {
     }
 
     fn with_status(mut self, text: &str) -> Result<Self, Fault>
-        ensures { Gives (λ run. run) result (Sessions.with_status self text.now) }
+        ensures { ExampleGives (λ run. run) result (Sessions.with_status self text.now) }
     {
         let Some(status) = number_of(text, 255) else {
             return Err(Fault::Form);
@@ -292,7 +293,7 @@ impl Run {
 
     // The run with these bytes sent, in the second file or expected.
     fn with_bytes(mut self, sign: &str, bytes: &[u8]) -> Result<Self, Fault>
-        ensures { Gives (λ run. run) result (Sessions.with_bytes self sign.now bytes.now) }
+        ensures { ExampleGives (λ run. run) result (Sessions.with_bytes self sign.now bytes.now) }
     {
         if sign == ">" {
             self.sent.extend_from_slice(bytes)?;
@@ -316,7 +317,7 @@ impl Run {
         sign: &str,
         text: &str,
     ) -> Result<Self, Fault>
-        ensures { Gives (λ run. run) result (Sessions.with_text known.now self sign.now text.now) }
+        ensures { ExampleGives (λ run. run) result (Sessions.after_text known.now self sign.now text.now) }
     {
         let parts = text_parts(alloc, known, &[], front_of(text))?;
         let mut bytes = put_filled(Vec::new(alloc), &parts, &[])?;
@@ -325,7 +326,7 @@ impl Run {
     }
 
     fn with_each(self, alloc: Global, known: &[Named], range: &str) -> Result<Self, Fault>
-        ensures { Gives (λ run. run) result (Sessions.with_each known.now self range.now) }
+        ensures { ExampleGives (λ run. run) result (Sessions.with_each known.now self range.now) }
     {
         let Some((first, rest)) = cut(range, ' ') else {
             return Err(Fault::Form);
@@ -351,19 +352,19 @@ impl Run {
         sign: &str,
         text: &str,
     ) -> Result<Self, Fault>
-        ensures { Gives (λ run. run) result
+        ensures { ExampleGives (λ run. run) result
             (Sessions.with_repeated known.now self numbers.first numbers.last sign.now text.now) }
     {
         let names = number_names(alloc)?;
         let parts = text_parts(alloc, known, &names, front_of(text))?;
-        let bytes = repeated(alloc, &parts, end_of(text), numbers.first, numbers.last)?;
+        let bytes = repeat_line(alloc, &parts, end_of(text), numbers.first, numbers.last)?;
         self.with_bytes(sign, &bytes)
     }
 }
 
 // The words that these texts write.
 fn words_of(alloc: Global, texts: &[Text]) -> Result<Vec<String>, NoMemory>
-    ensures { IfOk result (λ words. map string_bytes words.items ≡ map Sessions.word_of texts.now) }
+    ensures { IfOk result (λ words. map string_bytes words.items ≡ map Sessions.first_word_of texts.now) }
 {
     let mut words = Vec::new(alloc);
     for text in texts {
@@ -373,7 +374,7 @@ fn words_of(alloc: Global, texts: &[Text]) -> Result<Vec<String>, NoMemory>
 }
 
 fn word_of(text: &str) -> &str
-    ensures { result.now ≡ Sessions.word_of text.now }
+    ensures { result.now ≡ Sessions.first_word_of text.now }
 {
     if text == "\"\"" { "" } else { text }
 }
@@ -387,7 +388,7 @@ fn front_of(text: &str) -> &str
 
 // The line end of a text.
 fn end_of(text: &str) -> &[u8]
-    ensures { result.now ≡ Sessions.end_of text.now }
+    ensures { result.now ≡ Sessions.line_end_of text.now }
 {
     match text.as_bytes() {
         [.., b'\\'] => b"",
@@ -396,7 +397,7 @@ fn end_of(text: &str) -> &[u8]
 }
 
 // The bytes of a line for each of these numbers.
-fn repeated(
+fn repeat_line(
     alloc: Global,
     parts: &[Part],
     end: &[u8],
@@ -405,7 +406,7 @@ fn repeated(
 ) -> Result<Vec<u8>, NoMemory>
     requires { last ≤ 1000000 }
     ensures { IfOk result (λ bytes. bytes.items
-        ≡ Sessions.repeated parts.now end.now (Sessions.numbers_between first last)) }
+        ≡ Sessions.repeat_line parts.now end.now (Sessions.numbers_between first last)) }
 {
     let mut bytes = Vec::new(alloc);
     for number in first..last + 1 {
@@ -422,7 +423,7 @@ fn put_number(
     number: u32,
 ) -> Result<Vec<u8>, NoMemory>
     ensures { IfOk result (λ made. made.items
-        ≡ bytes.items ++ Texts.filled (Sessions.number_texts number) parts.now) }
+        ≡ bytes.items ++ Texts.fill_holes (Sessions.number_texts number) parts.now) }
 {
     let texts = number_texts(alloc, number)?;
     put_filled(bytes, parts, &texts)

@@ -1,6 +1,6 @@
 //! Sessions, as a document requires them.
 ghost use Rattle.std.specs.Prelude.{◌≡◌, ◌-◌, [], length, slice_get, IfOk};
-ghost use Rattle.example_sessions.specs.Reading.{Gives};
+ghost use Rattle.example_sessions.specs.Reading.{ExampleGives};
 ghost use Rattle.example_sessions.specs.Sessions;
 
 use crate::cuts::cut;
@@ -54,7 +54,7 @@ impl Session {
     /// The session after one more line.
     #[tactic(auto, unfolding(crate::specs::Sessions::session_with))]
     pub fn with_line(self, alloc: Global, known: &[Named], line: &str) -> Result<Self, Fault>
-        ensures { Gives (λ session. session) result (Sessions.session_with known.now self line.now) }
+        ensures { ExampleGives (λ session. session) result (Sessions.session_with known.now self line.now) }
     {
         if line.is_empty() {
             return Ok(self);
@@ -72,7 +72,8 @@ impl Session {
         word: &str,
         rest: &str,
     ) -> Result<Self, Fault>
-        ensures { Gives (λ session. session) result (Sessions.by_word known.now self word.now rest.now) }
+        ensures { ExampleGives
+            (λ session. session) result (Sessions.by_word known.now self word.now rest.now) }
     {
         if word == "#" {
             return Ok(self);
@@ -92,7 +93,7 @@ impl Session {
         word: &str,
         rest: &str,
     ) -> Result<Self, Fault>
-        ensures { Gives (λ session. session) result
+        ensures { ExampleGives (λ session. session) result
             (Sessions.with_last known.now self word.now rest.now (slice_get self.runs (length self.runs - 1))) }
     {
         let Some(run) = self.runs.pop() else {

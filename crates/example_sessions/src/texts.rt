@@ -30,7 +30,7 @@ pub fn text_named<'a>(known: &'a [Named], name: &str, parameters: usize) -> Opti
 
 /// The index of a name among others.
 pub fn index_of(names: &[Text], name: &str) -> Option<usize>
-    ensures { result ≡ Texts.index_of names.now name.now }
+    ensures { result ≡ Texts.index_among names.now name.now }
 {
     names.iter().position(|other| other.as_str() == name)
 }
@@ -48,7 +48,7 @@ pub fn put_filled(
     parts: &[Part],
     arguments: &[Bytes],
 ) -> Result<Vec<u8>, NoMemory>
-    ensures { IfOk result (λ made. made.items ≡ bytes.items ++ Texts.filled arguments.now parts.now) }
+    ensures { IfOk result (λ made. made.items ≡ bytes.items ++ Texts.fill_holes arguments.now parts.now) }
 {
     for part in parts {
         bytes = put_part(bytes, part, arguments)?;

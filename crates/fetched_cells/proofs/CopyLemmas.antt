@@ -20,7 +20,7 @@ use Rattle.lei_records.specs.Relations.{is_same_type}
 use Rattle.relation_rules.specs.Needs.{is_lacking, lacks}
 use Rattle.fetched_cells.specs.Fetching.{HasJust, SameAt}
 use Rattle.fetched_cells.specs.Filling.{IsCopied}
-use Rattle.fetched_cells.specs.Maps.{with_end, with_exception, with_holder, with_record, with_relation}
+use Rattle.fetched_cells.specs.Maps.{with_active_end, with_exception, with_holder, with_record, with_relation}
 use Rattle.fetched_cells.proofs.MapLemmas.{bytes_itself, bytes_same}
 
 -- ---- tests of keys
@@ -89,7 +89,7 @@ module _ (whole old : Cells) where
   }
 
   end_elsewhere : (start : List ℕ) (kind : RelationType) (seen : Seen (List ℕ)) (other : CellKey)
-      → (other ≡ CellKey.Act start kind) ⊎ SameAt (with_end old start kind seen) old other
+      → (other ≡ CellKey.Act start kind) ⊎ SameAt (with_active_end old start kind seen) old other
   end_elsewhere start kind seen (CellKey.Rec q) = inr refl
   end_elsewhere start kind seen (CellKey.Rel s k e) = inr refl
   end_elsewhere start kind seen (CellKey.Exc q c) = inr refl
@@ -101,7 +101,7 @@ module _ (whole old : Cells) where
       let kinds = sym (type_same kind k parts.1) in
       λ i. CellKey.Act (starts i) (kinds i))
 
-  end_copied : (start : List ℕ) (kind : RelationType) → IsCopied whole old (with_end old start kind (whole.active start kind)) (CellKey.Act start kind)
+  end_copied : (start : List ℕ) (kind : RelationType) → IsCopied whole old (with_active_end old start kind (whole.active start kind)) (CellKey.Act start kind)
   end_copied start kind = record {
     here = found (bytes_eq start start && is_same_type kind kind) (whole.active start kind) (old.active start kind)
         (each (bytes_eq start start) (is_same_type kind kind) (bytes_itself start) (bytes_itself (relation_type_text kind)));
@@ -165,10 +165,10 @@ module _ (whole old : Cells) where
         (subst (λ (cells : Cells). IsCopied whole old cells (CellKey.Rel start kind end)) (sym (is ∙ ap (with_relation old start kind end) from)) (relation_copied start kind end))
 
     pub copied_end : (start : List ℕ) (kind : RelationType) (seen : Seen (List ℕ)) → key ≡ CellKey.Act start kind
-        → seen ≡ whole.active start kind → new ≡ with_end old start kind seen → IsCopied whole old new key
+        → seen ≡ whole.active start kind → new ≡ with_active_end old start kind seen → IsCopied whole old new key
     copied_end start kind seen keys from is =
         subst (IsCopied whole old new) (sym keys)
-        (subst (λ (cells : Cells). IsCopied whole old cells (CellKey.Act start kind)) (sym (is ∙ ap (with_end old start kind) from)) (end_copied start kind))
+        (subst (λ (cells : Cells). IsCopied whole old cells (CellKey.Act start kind)) (sym (is ∙ ap (with_active_end old start kind) from)) (end_copied start kind))
 
     pub copied_exception : (lei : List ℕ) (category : ExceptionCategory) (seen : Seen ⊤) → key ≡ CellKey.Exc lei category
         → seen ≡ whole.exception lei category → new ≡ with_exception old lei category seen → IsCopied whole old new key

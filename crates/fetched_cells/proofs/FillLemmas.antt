@@ -6,9 +6,9 @@ use Rattle.std.proofs.Math.Seq.{take-nil}
 use Rattle.lei_records.specs.declared.view.CellKey.{CellKey}
 use Rattle.lei_records.specs.Cells.{Cells}
 use Rattle.fetched_cells.specs.declared.filling.Filling.{Filling}
-use Rattle.fetched_cells.specs.Fetching.{HasJust, brought, fetched_keys}
-use Rattle.fetched_cells.specs.Filling.{Adds, IsCopied}
-use Rattle.fetched_cells.specs.Maps.{cells_in}
+use Rattle.fetched_cells.specs.Fetching.{HasJust, fetched_keys, keys_along}
+use Rattle.fetched_cells.specs.Filling.{AddsCells, IsCopied}
+use Rattle.fetched_cells.specs.Maps.{fetched_view}
 use Rattle.fetched_cells.proofs.CopyLemmas.{has_just-more}
 
 -- ---- prefixes of lists
@@ -27,31 +27,31 @@ take-both (suc n) (x ∷ xs) ys =
 -- ---- what was added
 
 module _ (whole : Cells) where
-  pub adds_none : (old : Filling) → Adds whole old old []
+  pub adds_none : (old : Filling) → AddsCells whole old old []
   adds_none old = record {
-    more = λ before just. subst (HasJust (cells_in old.fetched) whole) (sym (ap (λ (keys : List CellKey). before ++ keys) (take-nil old.left) ∙ append-nil before)) just;
+    more = λ before just. subst (HasJust (fetched_view old.fetched) whole) (sym (ap (λ (keys : List CellKey). before ++ keys) (take-nil old.left) ∙ append-nil before)) just;
     rest = omega arith;
   }
 
   -- without room nothing is added
-  pub adds_full : (old : Filling) (keys : List CellKey) → old.left ≡ 0 → Adds whole old old keys
+  pub adds_full : (old : Filling) (keys : List CellKey) → old.left ≡ 0 → AddsCells whole old old keys
   adds_full old keys full = record {
-    more = λ before just. subst (HasJust (cells_in old.fetched) whole) (sym (ap (λ n. before ++ take n keys) full ∙ append-nil before)) just;
+    more = λ before just. subst (HasJust (fetched_view old.fetched) whole) (sym (ap (λ n. before ++ take n keys) full ∙ append-nil before)) just;
     rest = let least : old.left ≡ 0 = full in omega arith;
   }
 
   pub adds_one : (old new : Filling) (key : CellKey) → 0 < old.left → new.left ≡ old.left - 1
-      → IsCopied whole (cells_in old.fetched) (cells_in new.fetched) key → Adds whole old new (key ∷ [])
+      → IsCopied whole (fetched_view old.fetched) (fetched_view new.fetched) key → AddsCells whole old new (key ∷ [])
   adds_one old new key room left copied = record {
-    more = λ before just. subst (λ keys. HasJust (cells_in new.fetched) whole (before ++ keys)) (sym (take_all old.left (key ∷ []) (omega arith)))
-        (has_just-more whole (cells_in old.fetched) (cells_in new.fetched) before key just copied);
+    more = λ before just. subst (λ keys. HasJust (fetched_view new.fetched) whole (before ++ keys)) (sym (take_all old.left (key ∷ []) (omega arith)))
+        (has_just-more whole (fetched_view old.fetched) (fetched_view new.fetched) before key just copied);
     rest = left;
   }
 
-  pub adds_then : (old mid new : Filling) (first others : List CellKey) → Adds whole old mid first → Adds whole mid new others
-      → Adds whole old new (first ++ others)
+  pub adds_then : (old mid new : Filling) (first others : List CellKey) → AddsCells whole old mid first → AddsCells whole mid new others
+      → AddsCells whole old new (first ++ others)
   adds_then old mid new first others one two = record {
-    more = λ before just. subst (HasJust (cells_in new.fetched) whole)
+    more = λ before just. subst (HasJust (fetched_view new.fetched) whole)
         (append_assoc before (take old.left first) (take mid.left others)
         ∙ ap (λ keys. before ++ keys) (ap (λ n. take old.left first ++ take n others) one.rest ∙ sym (take-both old.left first others)))
         (two.more (before ++ take old.left first) (one.more before just));
@@ -62,20 +62,20 @@ module _ (whole : Cells) where
 
 -- adding the rest from here completes adding all from the start
 pub record Goes (whole : Cells) (start now : Filling) (rest all : List CellKey) : Type 0 where
-  pub goes : (last : Filling) → Adds whole now last rest → Adds whole start last all
+  pub goes : (last : Filling) → AddsCells whole now last rest → AddsCells whole start last all
 
 module _ (whole : Cells) (start now : Filling) (rest all : List CellKey) where
-  pub goes_on : (mid : Filling) (first others : List CellKey) → Goes whole start now rest all → rest ≡ first ++ others → Adds whole now mid first
+  pub goes_on : (mid : Filling) (first others : List CellKey) → Goes whole start now rest all → rest ≡ first ++ others → AddsCells whole now mid first
       → Goes whole start mid others all
   goes_on mid first others before parts added = record {
-    goes = λ last more. before.goes last (subst (Adds whole now last) (sym parts) (adds_then whole now mid last first others added more));
+    goes = λ last more. before.goes last (subst (AddsCells whole now last) (sym parts) (adds_then whole now mid last first others added more));
   }
 
-  pub goes_full : Goes whole start now rest all → now.left ≡ 0 → Adds whole start now all
+  pub goes_full : Goes whole start now rest all → now.left ≡ 0 → AddsCells whole start now all
   goes_full before full = before.goes now (adds_full whole now rest full)
 
-  pub goes_none : Goes whole start now rest all → rest ≡ [] → Adds whole start now all
-  goes_none before none = before.goes now (subst (Adds whole now now) (sym none) (adds_none whole now))
+  pub goes_none : Goes whole start now rest all → rest ≡ [] → AddsCells whole start now all
+  goes_none before none = before.goes now (subst (AddsCells whole now now) (sym none) (adds_none whole now))
 
 pub goes_start : (whole : Cells) (start : Filling) (all : List CellKey) → Goes whole start start all all
 goes_start whole start all = record { goes = λ last more. more }
@@ -83,7 +83,7 @@ goes_start whole start all = record { goes = λ last more. more }
 -- ---- key by key
 
 pub keys_next : (cells : Cells) (keys : List CellKey) (i : ℕ) (key : CellKey) → i < length keys → get_or keys i key ≡ key
-    → fetched_keys cells (drop i keys) ≡ (key ∷ brought cells key) ++ fetched_keys cells (drop (i + 1) keys)
+    → fetched_keys cells (drop i keys) ≡ (key ∷ keys_along cells key) ++ fetched_keys cells (drop (i + 1) keys)
 keys_next cells keys i key less is =
     let rest : drop i keys ≡ key ∷ drop (i + 1) keys = rw add-one (drop-cons keys i key less ∙ ap (λ k. k ∷ drop (suc i) keys) is) in
     ap (fetched_keys cells) rest

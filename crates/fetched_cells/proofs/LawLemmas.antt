@@ -16,17 +16,17 @@ use Rattle.lei_records.specs.Cells.{Cells, akey, lei_in, successor_in, successor
 use Rattle.lei_records.specs.Parents.{parent_category}
 use Rattle.lei_records.specs.Relations.{end_in, kind_in, start_in}
 use Rattle.lei_records.specs.Rows.{Row}
-use Rattle.lei_records.specs.Walks.{members}
+use Rattle.lei_records.specs.Walks.{walk_members}
 use Rattle.successor_rules.specs.declared.walks.Walked.{Walked}
 use Rattle.successor_rules.specs.Chains.{Nexts}
-use Rattle.successor_rules.specs.Levels.{held_nexts, known_nexts, reached, spread_out}
-use Rattle.successor_rules.specs.Successors.{named, successor_seen, successors_seen}
-use Rattle.successor_rules.specs.Walks.{held, known}
+use Rattle.successor_rules.specs.Levels.{held_nexts, known_nexts, reachable, spread_out}
+use Rattle.successor_rules.specs.Successors.{seen_successor, successor_seen, successors_seen}
+use Rattle.successor_rules.specs.Walks.{held_lei, known_next}
 use Rattle.successor_rules.proofs.LevelLemmas.{has, own_text, same_text}
 use Rattle.relation_rules.specs.Checks.{is_direct_parent}
 use Rattle.relation_rules.specs.Needs.{exception_keys, relation_names}
-use Rattle.cell_reads.specs.Needs.{level_walk, key_names, names, needs, next_successor, next_successors, parent_walk, record_names, record_walk, successor_names, successor_walk, walk_cells}
-use Rattle.fetched_cells.specs.Fetching.{LevelsEnd, brought, fetched_keys, nearest_records}
+use Rattle.cell_reads.specs.Needs.{level_walk, key_names, named_cells, needs, next_successor, next_successors, parent_walk, record_names, record_walk, successor_names, successor_walk, walk_cells}
+use Rattle.fetched_cells.specs.Fetching.{LevelsEnd, fetched_keys, keys_along, nearest_records}
 use Rattle.fetched_cells.specs.Nearest.{nearest}
 use Rattle.fetched_cells.proofs.CloseLemmas.{NamedBy}
 use Rattle.fetched_cells.proofs.SpreadLemmas.{member_near, near, reached_near}
@@ -89,10 +89,10 @@ first_has (x ∷ xs) lei is =
     let same : x ≡ lei = cc in
     or_left (bytes_eq lei x) (has xs lei) (subst (λ y. bytes_eq lei y ≡ true) (sym same) (own_text lei))
 
-first_seen : (seen : Seen RecCell) (lei : List ℕ) → held (successor_seen seen) ≡ Some lei → has (held_nexts (successors_seen seen)) lei ≡ true
+first_seen : (seen : Seen RecCell) (lei : List ℕ) → held_lei (successor_seen seen) ≡ Some lei → has (held_nexts (successors_seen seen)) lei ≡ true
 first_seen (Seen.Held cell) lei is = by cell.successors is
   where
-    by : (leis : List (List ℕ)) → held (named (slice_get leis 0)) ≡ Some lei → has leis lei ≡ true
+    by : (leis : List (List ℕ)) → held_lei (seen_successor (slice_get leis 0)) ≡ Some lei → has leis lei ≡ true
     by [] none = absurd cc
     by (x ∷ xs) one = first_has (x ∷ xs) lei one
 first_seen Seen.Empty lei is = absurd cc
@@ -102,13 +102,13 @@ first_seen Seen.Missing lei is = absurd cc
 
 module _ (cells : Cells) (key : CellKey) where
   abbrev fetched : CellKey → List CellKey
-  fetched own = own ∷ brought cells own
+  fetched own = own ∷ keys_along cells own
 
   of_names : (keys : List CellKey) → Contains keys key → Contains (fetched_keys cells keys) key
-  of_names keys at = flat_map-contains fetched keys key key at (first_of key (brought cells key))
+  of_names keys at = flat_map-contains fetched keys key key at (first_of key (keys_along cells key))
 
-  of_brought : (keys : List CellKey) (own : CellKey) → Contains keys own → Contains (brought cells own) key → Contains (fetched_keys cells keys) key
-  of_brought keys own at within = flat_map-contains fetched keys own key at (later own (brought cells own) key within)
+  of_brought : (keys : List CellKey) (own : CellKey) → Contains keys own → Contains (keys_along cells own) key → Contains (fetched_keys cells keys) key
+  of_brought keys own at within = flat_map-contains fetched keys own key at (later own (keys_along cells own) key within)
 
   abbrev nexts : Nexts
   nexts = known_nexts (next_successors cells)
@@ -131,21 +131,21 @@ module _ (cells : Cells) (key : CellKey) where
   ]
 
   -- the first successor is one of the successors
-  one_of_all : (x y : List ℕ) → known (next_successor cells) x ≡ Some y → has (nexts x) y ≡ true
+  one_of_all : (x y : List ℕ) → known_next (next_successor cells) x ≡ Some y → has (nexts x) y ≡ true
   one_of_all x y is = first_seen (cells.record_cell x) y is
 
   of_chain : (row : Row) (named : Option (List ℕ)) → successor_in row ≡ named → spread_out nexts (lei_in row) (successors_in row) ≡ Walked.Ends
       → Contains (successor_walk cells named) key → Contains (fetched_keys cells (record_names row)) key
   of_chain row None is ended walked = absurd (none_at key walked)
   of_chain row (Some first) is ended walked =
-      let found = record_of (members 200 (known (next_successor cells)) first) key walked in
-      of_near row found.lei found.is (member_near nexts (lei_in row) (successors_in row) ended 200 (known (next_successor cells)) one_of_all
+      let found = record_of (walk_members 200 (known_next (next_successor cells)) first) key walked in
+      of_near row found.lei found.is (member_near nexts (lei_in row) (successors_in row) ended 200 (known_next (next_successor cells)) one_of_all
       first (first_has (successors_in row) first is) found.lei found.at)
 
   of_levels : (row : Row) → spread_out nexts (lei_in row) (successors_in row) ≡ Walked.Ends
       → Contains (level_walk cells (lei_in row) (successors_in row)) key → Contains (fetched_keys cells (record_names row)) key
   of_levels row ended walked =
-      let found = record_of (reached nexts (lei_in row) (successors_in row)) key walked in
+      let found = record_of (reachable nexts (lei_in row) (successors_in row)) key walked in
       of_near row found.lei found.is (reached_near nexts (lei_in row) (successors_in row) ended found.lei found.at)
 
   of_record : (rules : Rules) (row : Row) → spread_out nexts (lei_in row) (successors_in row) ≡ Walked.Ends
@@ -164,7 +164,7 @@ module _ (cells : Cells) (key : CellKey) where
       (Contains-append_right (nearest_records cells (end_in row)) (parent_walk cells (end_in row)) key walked)
 
   of_walk : (rules : Rules) (item : Readied) → LevelsEnd cells item → Contains (walk_cells rules cells item) key
-      → Contains (fetched_keys cells (names item)) key
+      → Contains (fetched_keys cells (named_cells item)) key
   of_walk rules (Readied.Bad check) ended at = absurd (none_at key at)
   of_walk rules (Readied.Good (Item.Record row)) ended at = of_record rules row ended at
   of_walk rules (Readied.Good (Item.Relation row)) ended at =
@@ -172,8 +172,8 @@ module _ (cells : Cells) (key : CellKey) where
   of_walk rules (Readied.Good (Item.Exception item)) ended at = absurd (none_at key at)
 
   pub needed_fetched : (rules : Rules) (item : Readied) → LevelsEnd cells item → Contains (needs rules cells item) key
-      → Contains (fetched_keys cells (names item)) key
-  needed_fetched rules item ended at = elim (Contains-append_cases (names item) (walk_cells rules cells item) key at) [
-    | inl named ↦ of_names (names item) named
+      → Contains (fetched_keys cells (named_cells item)) key
+  needed_fetched rules item ended at = elim (Contains-append_cases (named_cells item) (walk_cells rules cells item) key at) [
+    | inl named ↦ of_names (named_cells item) named
     | inr walked ↦ of_walk rules item ended walked
   ]

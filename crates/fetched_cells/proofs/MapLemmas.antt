@@ -13,7 +13,7 @@ use Rattle.std.proofs.Common.{refl, rules, sym, ap, ◌∙◌}
 use Rattle.std.proofs.lemmas.Map.Text.{btree_map_updates_text, is_eq-slice_cmp}
 use Rattle.std.proofs.lemmas.Slice.Eq.{bytes_eq-Decides}
 use Rattle.lei_records.specs.declared.view.Seen.{Seen}
-use Rattle.fetched_cells.specs.Maps.{between_at, code_at, or_missing, pair_at, texts_at}
+use Rattle.fetched_cells.specs.Maps.{between_at, code_at, or_missing, seen_pair_at, value_at_texts}
 
 pub bytes_same : (a b : List ℕ) → bytes_eq a b ≡ true → a ≡ b
 bytes_same a b is = (bytes_eq-Decides a b).0 is
@@ -46,10 +46,10 @@ tied_texts a b c d =
 abbrev pub pair_cmp : List ℕ × Bor (List ℕ) → List ℕ × Bor (List ℕ) → Ordering
 pair_cmp a b = ordering_then (slice_cmp nat_cmp a.0 b.0) (slice_cmp nat_cmp a.1.now b.1.now)
 
-pub pair_at-insert : {X : Type 0} (old new : BTreeMap (List ℕ × Bor (List ℕ)) (Seen X)) (key : List ℕ × Bor (List ℕ)) (text : List ℕ) (found : Seen X)
+pub seen_pair_at-insert : {X : Type 0} (old new : BTreeMap (List ℕ × Bor (List ℕ)) (Seen X)) (key : List ℕ × Bor (List ℕ)) (text : List ℕ) (found : Seen X)
     → key.1.now ≡ text → Updates pair_cmp old new key (Some found)
-    → (q t : List ℕ) → pair_at new q t ≡ cond (bytes_eq key.0 q && bytes_eq text t) found (pair_at old q t)
-pair_at-insert old new key text found texts updates q t =
+    → (q t : List ℕ) → seen_pair_at new q t ≡ cond (bytes_eq key.0 q && bytes_eq text t) found (seen_pair_at old q t)
+seen_pair_at-insert old new key text found texts updates q t =
     let at : List ℕ × Bor (List ℕ) = (q, record key.1 { now = t }) in
     found-put (get pair_cmp new at) (get pair_cmp old at) (is_eq (pair_cmp key at)) (bytes_eq key.0 q && bytes_eq text t) found
     (updates.0 at) (tied_texts key.0 q key.1.now t ∙ ap (λ w. bytes_eq key.0 q && bytes_eq w t) texts)
@@ -92,13 +92,13 @@ module _ {Y Z : Type 0} where
       → get_by_text old authority ≡ was
       → ((i : List ℕ) → get_by_text more i ≡ cond (bytes_eq id i) (Some found) (id_in was i))
       → ((a : List ℕ) → get_by_text new a ≡ cond (bytes_eq authority a) (Some more) (get_by_text old a))
-      → (a i : List ℕ) → texts_at new a i ≡ cond (bytes_eq authority a && bytes_eq id i) (Some found) (texts_at old a i)
+      → (a i : List ℕ) → value_at_texts new a i ≡ cond (bytes_eq authority a && bytes_eq id i) (Some found) (value_at_texts old a i)
   texts_at-insert old new was more authority id found is with_id with_ids a i =
       ap (λ ids. id_in ids i) (with_ids a)
       ∙ elim (bytes_eq authority a) as (λ b. bytes_eq authority a ≡ b
-      → id_in (cond b (Some more) (get_by_text old a)) i ≡ cond (b && bytes_eq id i) (Some found) (texts_at old a i)) [
+      → id_in (cond b (Some more) (get_by_text old a)) i ≡ cond (b && bytes_eq id i) (Some found) (value_at_texts old a i)) [
         | true ↦ λ t. with_id i ∙ ap (cond (bytes_eq id i) (Some found))
-            (ap (λ ids. id_in ids i) (sym is) ∙ ap (λ x. texts_at old x i) (bytes_same authority a t))
+            (ap (λ ids. id_in ids i) (sym is) ∙ ap (λ x. value_at_texts old x i) (bytes_same authority a t))
         | false ↦ λ _. refl
       ] refl
 
@@ -107,10 +107,10 @@ module _ {Y Z : Type 0} where
       → get_by_text old authority ≡ was
       → ((i : List ℕ) → get_by_text ids i ≡ id_in was i)
       → ((a : List ℕ) → get_by_text new a ≡ cond (bytes_eq authority a) (Some ids) (get_by_text old a))
-      → (a i : List ℕ) → texts_at new a i ≡ texts_at old a i
+      → (a i : List ℕ) → value_at_texts new a i ≡ value_at_texts old a i
   texts_at-same old new was ids authority is same with_ids a i =
       ap (λ ids. id_in ids i) (with_ids a)
-      ∙ elim (bytes_eq authority a) as (λ b. bytes_eq authority a ≡ b → id_in (cond b (Some ids) (get_by_text old a)) i ≡ texts_at old a i) [
-        | true ↦ λ t. same i ∙ (ap (λ ids. id_in ids i) (sym is) ∙ ap (λ x. texts_at old x i) (bytes_same authority a t))
+      ∙ elim (bytes_eq authority a) as (λ b. bytes_eq authority a ≡ b → id_in (cond b (Some ids) (get_by_text old a)) i ≡ value_at_texts old a i) [
+        | true ↦ λ t. same i ∙ (ap (λ ids. id_in ids i) (sym is) ∙ ap (λ x. value_at_texts old x i) (bytes_same authority a t))
         | false ↦ λ _. refl
       ] refl

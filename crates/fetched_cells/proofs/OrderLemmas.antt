@@ -16,7 +16,7 @@ use Rattle.std.proofs.lemmas.Map.Text.{is_eq-slice_cmp}
 use Rattle.successor_rules.specs.Chains.{Nexts}
 use Rattle.successor_rules.proofs.AgreeLemmas.{text_laws}
 use Rattle.successor_rules.proofs.LevelLemmas.{has, same_text}
-use Rattle.fetched_cells.specs.Nearest.{in_order, new_ones, unmet}
+use Rattle.fetched_cells.specs.Nearest.{distinct_leis, new_ones, unmet}
 
 -- an LEI inserted at its place in a list in byte order
 abbrev put : List (List ℕ) → List ℕ → List (List ℕ)
@@ -119,7 +119,7 @@ none_sorted : IsStrictlySortedBy (slice_cmp nat_cmp) []
 unfolding IsStrictlySortedBy
 none_sorted = tt
 
-pub order-sorted : (leis : List (List ℕ)) → IsStrictlySortedBy (slice_cmp nat_cmp) (in_order leis)
+pub order-sorted : (leis : List (List ℕ)) → IsStrictlySortedBy (slice_cmp nat_cmp) (distinct_leis leis)
 order-sorted leis = fold-sorted [] leis none_sorted
 
 pub new_ones-distinct : (nexts : Nexts) (met before : List (List ℕ)) → IsDistinct bytes_eq (new_ones nexts met before)

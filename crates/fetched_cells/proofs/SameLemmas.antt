@@ -7,7 +7,7 @@ use Rattle.std.proofs.lemmas.Bool.{cases_Bool, cond-false, false≢true}
 use Rattle.std.proofs.lemmas.Grind.{flat_map-append}
 use Rattle.std.proofs.lemmas.List.{append-nil}
 use Rattle.successor_rules.specs.Chains.{Nexts}
-use Rattle.successor_rules.specs.Levels.{levels, next_level, onward, others}
+use Rattle.successor_rules.specs.Levels.{levels, next_level, onward_leis, others}
 use Rattle.successor_rules.proofs.LevelLemmas.{has, has-append, next-has, once-has, others-has, own_text, same_text}
 use Rattle.successor_rules.proofs.RiseLemmas.{others-next}
 use Rattle.fetched_cells.specs.Nearest.{by_levels, new_ones}
@@ -62,7 +62,7 @@ module _ (nexts : Nexts) (own : List ℕ) where
   onward-all : (xs : List (List ℕ)) → has xs own ≡ false → (y : List ℕ) → has (next_level nexts own xs) y ≡ has (flat_map nexts xs) y
   onward-all xs none y =
       both_ways (has (next_level nexts own xs) y) (has (flat_map nexts xs) y)
-      (λ at. let by = named_by (onward nexts own) xs y at in names_there nexts xs by.lei y by.at (onward_names nexts own by.lei y by.names))
+      (λ at. let by = named_by (onward_leis nexts own) xs y at in names_there nexts xs by.lei y by.at (onward_names nexts own by.lei y by.names))
       (λ at.
       let by = named_by nexts xs y at in
       elim (cases_Bool (bytes_eq by.lei own)) [

@@ -7,10 +7,10 @@ use Rattle.std.specs.Str.{bytes_eq}
 use Rattle.std.proofs.Common.{refl, sym, ap, subst, ◌∙◌, inl, inr}
 use Rattle.std.proofs.lemmas.Bool.{and_parts, cases_Bool, cond-false, false≢true, ltb-false, not-true, or_cases, or_left, or_right}
 use Rattle.std.proofs.lemmas.List.{take_all}
-use Rattle.lei_records.specs.Walks.{Next, members}
+use Rattle.lei_records.specs.Walks.{Next, walk_members}
 use Rattle.successor_rules.specs.declared.walks.Walked.{Walked}
 use Rattle.successor_rules.specs.Chains.{Nexts}
-use Rattle.successor_rules.specs.Levels.{each_once, is_back, is_wide, levels, next_level, onward, others, reached, spread_out}
+use Rattle.successor_rules.specs.Levels.{each_once, has_wide_levels, is_back, levels, next_level, onward_leis, others, reachable, spread_out}
 use Rattle.successor_rules.proofs.LevelLemmas.{has, has-append, next-has, once-has, others-has, own_text, same_text}
 use Rattle.successor_rules.proofs.RiseLemmas.{levels-has, others-next, others-stand}
 use Rattle.fetched_cells.specs.Nearest.{nearest}
@@ -26,7 +26,7 @@ ended_parts false false is = (refl, refl)
 abbrev pub near : Nexts → Nexts
 near nexts lei = lei ∷ nearest nexts lei
 
-pub onward_names : (nexts : Nexts) (own x y : List ℕ) → has (onward nexts own x) y ≡ true → has (nexts x) y ≡ true
+pub onward_names : (nexts : Nexts) (own x y : List ℕ) → has (onward_leis nexts own x) y ≡ true → has (nexts x) y ≡ true
 onward_names nexts own x y at = by (bytes_eq x own) at
   where
     by : (b : Bool) → has (cond b [] (nexts x)) y ≡ true → has (nexts x) y ≡ true
@@ -43,29 +43,29 @@ levels_in (suc n) nexts own whole level closed within y at =
     elim (or_cases (has level y) (has (levels n nexts own next) y) (sym (has-append level (levels n nexts own next) y) ∙ at)) [
       | inl is ↦ within y is
       | inr is ↦ levels_in n nexts own whole next closed (λ z named.
-          let by = named_by (onward nexts own) level z named in
+          let by = named_by (onward_leis nexts own) level z named in
           closed.goes by.lei z (within by.lei by.at) (onward_names nexts own by.lei z by.names)) y is
     ]
 
 -- the members of a walk stay within a closed list
 members_in : (n : ℕ) (next : Next) (whole : List (List ℕ)) → ((x y : List ℕ) → has whole x ≡ true → next x ≡ Some y → has whole y ≡ true)
-    → (first : List ℕ) → has whole first ≡ true → (lei : List ℕ) → has (members n next first) lei ≡ true → has whole lei ≡ true
-unfolding members
+    → (first : List ℕ) → has whole first ≡ true → (lei : List ℕ) → has (walk_members n next first) lei ≡ true → has whole lei ≡ true
+unfolding walk_members
 members_in zero next whole goes first within lei at = absurd (false≢true at)
 members_in (suc n) next whole goes first within lei at =
-    elim (or_cases (bytes_eq lei first) (has (option_map_or (members n next) (next first) []) lei) at) [
+    elim (or_cases (bytes_eq lei first) (has (option_map_or (walk_members n next) (next first) []) lei) at) [
       | inl is ↦ subst (λ l. has whole l ≡ true) (sym (same_text lei first is)) within
       | inr is ↦ by (members_in n next whole goes) (next first) refl is
     ]
   where
-    by : ((x : List ℕ) → has whole x ≡ true → (y : List ℕ) → has (members n next x) y ≡ true → has whole y ≡ true)
-        → (named : Option (List ℕ)) → next first ≡ named → has (option_map_or (members n next) named []) lei ≡ true → has whole lei ≡ true
+    by : ((x : List ℕ) → has whole x ≡ true → (y : List ℕ) → has (walk_members n next x) y ≡ true → has whole y ≡ true)
+        → (named : Option (List ℕ)) → next first ≡ named → has (option_map_or (walk_members n next) named []) lei ≡ true → has whole lei ≡ true
     by rest None is at = absurd (false≢true at)
     by rest (Some y) is at = rest y (goes first y within is) lei at
 
 module _ (nexts : Nexts) (own : List ℕ) (targets : List (List ℕ)) (ended : spread_out nexts own targets ≡ Walked.Ends) where
-  parts : (is_wide nexts own targets ≡ false) × (is_back nexts own targets ≡ false)
-  parts = ended_parts (is_wide nexts own targets) (is_back nexts own targets) ended
+  parts : (has_wide_levels nexts own targets ≡ false) × (is_back nexts own targets ≡ false)
+  parts = ended_parts (has_wide_levels nexts own targets) (is_back nexts own targets) ended
 
   few : length (others 201 nexts own targets) ≤ 200
   few = ltb-false 200 (length (others 201 nexts own targets)) parts.0
@@ -131,7 +131,7 @@ module _ (nexts : Nexts) (own : List ℕ) (targets : List (List ℕ)) (ended : s
   target_around lei at =
       names_there (near nexts) targets lei lei at (or_left (bytes_eq lei lei) (has (nearest nexts lei) lei) (own_text lei))
 
-  pub reached_near : (lei : List ℕ) → has (reached nexts own targets) lei ≡ true → NamedBy (near nexts) targets lei
+  pub reached_near : (lei : List ℕ) → has (reachable nexts own targets) lei ≡ true → NamedBy (near nexts) targets lei
   reached_near lei at =
       let within = ap (λ l. has l lei) (sym (take_all 200 (others 201 nexts own targets) few)) ∙ at in
       let both = and_parts (has (levels 201 nexts own targets) lei) (not (bytes_eq lei own)) (sym (others-has 201 nexts own targets lei) ∙ within) in
@@ -139,7 +139,7 @@ module _ (nexts : Nexts) (own : List ℕ) (targets : List (List ℕ)) (ended : s
 
   -- the same for a walk along one of the LEIs that each LEI names
   pub member_near : (n : ℕ) (next : Next) → ((x y : List ℕ) → next x ≡ Some y → has (nexts x) y ≡ true)
-      → (first : List ℕ) → has targets first ≡ true → (lei : List ℕ) → has (members n next first) lei ≡ true → NamedBy (near nexts) targets lei
+      → (first : List ℕ) → has targets first ≡ true → (lei : List ℕ) → has (walk_members n next first) lei ≡ true → NamedBy (near nexts) targets lei
   member_near n next one first at lei member =
       named_by (near nexts) targets lei (members_in n next around (λ x y within is. around_closed.goes x y within (one x y is))
       first (target_around first at) lei member)

@@ -22,14 +22,14 @@ nearest_records cells lei = map CellKey.Rec (nearest (known_nexts (next_successo
 -- The cells that are fetched along with a key. For a record these are the records of its levels of successors, and then
 -- the cells of the walk of direct parents from it. That walk has up to 200 members, as far as the view knows it. For
 -- any other key there are none.
-abbrev pub brought : Cells → CellKey → List CellKey
-brought cells (CellKey.Rec lei) = nearest_records cells lei ++ parent_walk cells lei
-brought cells key = []
+abbrev pub keys_along : Cells → CellKey → List CellKey
+keys_along cells (CellKey.Rec lei) = nearest_records cells lei ++ parent_walk cells lei
+keys_along cells key = []
 
 -- The cells that are fetched for keys, in order: each key, followed by the cells that are fetched along with it. A cell
 -- occurs as often as it is named or reached.
 abbrev pub fetched_keys : Cells → List CellKey → List CellKey
-fetched_keys cells keys = flat_map (λ key. key ∷ brought cells key) keys
+fetched_keys cells keys = flat_map (λ key. key ∷ keys_along cells key) keys
 
 -- An item's walk by levels ends, as far as the view knows it. Only a record has such a walk.
 abbrev pub LevelsEnd : Cells → Readied → Type 0

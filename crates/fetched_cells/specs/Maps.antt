@@ -30,8 +30,8 @@ abbrev pub code_at : {X : Type 0} → BTreeMap Lei (Seen X) → Lei → Seen X
 code_at codes lei = or_missing (get_by (slice_cmp nat_cmp lei) codes)
 
 -- What a map with an LEI and a text in each key has for these.
-abbrev pub pair_at : {X : Type 0} → BTreeMap (Lei × Bor Text) (Seen X) → Lei → Text → Seen X
-pair_at pairs lei text = or_missing (get_by (λ key.
+abbrev pub seen_pair_at : {X : Type 0} → BTreeMap (Lei × Bor Text) (Seen X) → Lei → Text → Seen X
+seen_pair_at pairs lei text = or_missing (get_by (λ key.
     ordering_then (slice_cmp nat_cmp lei key.0) (slice_cmp nat_cmp text key.1.now)) pairs)
 
 -- What a map with a start, the text of a type and an end in each key has for these.
@@ -41,19 +41,19 @@ between_at relations start text end = or_missing (get_by (λ key.
     (slice_cmp nat_cmp end key.2)) relations)
 
 -- What a map of maps with texts as keys has for two texts, if anything.
-abbrev pub texts_at : {X Y Z : Type 0} → BTreeMap (String Z) (BTreeMap (String Y) X) → Text → Text → Option X
-texts_at holders authority id = option_and_then (λ ids. get_by_text ids id) (get_by_text holders authority)
+abbrev pub value_at_texts : {X Y Z : Type 0} → BTreeMap (String Z) (BTreeMap (String Y) X) → Text → Text → Option X
+value_at_texts holders authority id = option_and_then (λ ids. get_by_text ids id) (get_by_text holders authority)
 
 -- ---- all cells
 
 -- What a fetched view answers: for each cell what was put in, and `Missing` for all others.
-abbrev pub cells_in : Fetched → Cells
-cells_in fetched = record {
+abbrev pub fetched_view : Fetched → Cells
+fetched_view fetched = record {
   record_cell = λ lei. code_at fetched.records lei;
-  holder = λ authority id. or_missing (texts_at fetched.holders authority id);
+  holder = λ authority id. or_missing (value_at_texts fetched.holders authority id);
   relation = λ start kind end. between_at fetched.relations start (relation_type_text kind) end;
-  active = λ start kind. pair_at fetched.ends start (relation_type_text kind);
-  exception = λ lei category. pair_at fetched.exceptions lei (exception_category_text category);
+  active = λ start kind. seen_pair_at fetched.ends start (relation_type_text kind);
+  exception = λ lei category. seen_pair_at fetched.exceptions lei (exception_category_text category);
 }
 
 -- ---- with one more cell
@@ -78,8 +78,8 @@ with_relation cells start kind end found = record cells {
 }
 
 -- The cells with this answer for the active relationship with a start and a type.
-abbrev pub with_end : Cells → Lei → RelationType → Seen Lei → Cells
-with_end cells start kind found = record cells {
+abbrev pub with_active_end : Cells → Lei → RelationType → Seen Lei → Cells
+with_active_end cells start kind found = record cells {
   active = λ s k. if bytes_eq start s && is_same_type kind k then found else cells.active s k;
 }
 

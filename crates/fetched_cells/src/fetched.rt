@@ -6,7 +6,7 @@ ghost use Rattle.lei_records.specs.declared.view.CellKey.{CellKey};
 ghost use Rattle.relation_rules.specs.Needs.{lacks};
 ghost use Rattle.fetched_cells.specs.Filling.{IsCopied};
 ghost use Rattle.fetched_cells.specs.Maps;
-ghost use Rattle.fetched_cells.specs.Maps.{cells_in, texts_at};
+ghost use Rattle.fetched_cells.specs.Maps.{fetched_view, value_at_texts};
 
 use lei_code::Lei;
 use lei_outside::NoMemory;
@@ -34,7 +34,7 @@ pub struct Fetched {
 }
 
 impl View for Fetched {
-    ghost cells = { cells_in };
+    ghost cells = { fetched_view };
 
     fn record_cell(&self, lei: &Lei) -> Seen<RecCell> {
         match self.records.get(lei) {
@@ -75,7 +75,7 @@ impl View for Fetched {
 impl Fetched {
     /// A view that lacks all cells.
     pub fn new(alloc: Global) -> Self
-        ensures { (key : CellKey) → IsTrue (lacks (cells_in result) key) }
+        ensures { (key : CellKey) → IsTrue (lacks (fetched_view result) key) }
     {
         Fetched {
             alloc,
@@ -91,8 +91,8 @@ impl Fetched {
     /// on.
     pub fn copy_cell<V: View>(&mut self, view: &V, key: &CellKey) -> Result<(), NoMemory>
         ensures copied { OnOk result
-            (IsCopied (V.cells view.now) (cells_in self.old) (cells_in self.new) key.now) }
-        ensures err { OnErr result (cells_in self.new ≡ cells_in self.old) }
+            (IsCopied (V.cells view.now) (fetched_view self.old) (fetched_view self.new) key.now) }
+        ensures err { OnErr result (fetched_view self.new ≡ fetched_view self.old) }
     {
         match key {
             CellKey::Rec(lei) => self.put_record(lei, view.record_cell(lei)),
@@ -111,8 +111,9 @@ impl Fetched {
     }
 
     fn put_record(&mut self, lei: &Lei, found: Seen<RecCell>) -> Result<(), NoMemory>
-        ensures put { OnOk result (cells_in self.new ≡ Maps.with_record (cells_in self.old) lei.now found) }
-        ensures err { OnErr result (cells_in self.new ≡ cells_in self.old) }
+        ensures put { OnOk result (fetched_view self.new
+            ≡ Maps.with_record (fetched_view self.old) lei.now found) }
+        ensures err { OnErr result (fetched_view self.new ≡ fetched_view self.old) }
     {
         match self.records.insert(*lei, found) {
             Ok(_) => Ok(()),
@@ -128,8 +129,9 @@ impl Fetched {
         found: Seen<RelCell>,
     ) -> Result<(), NoMemory>
         ensures put { OnOk result
-            (cells_in self.new ≡ Maps.with_relation (cells_in self.old) start.now kind end.now found) }
-        ensures err { OnErr result (cells_in self.new ≡ cells_in self.old) }
+            (fetched_view self.new ≡ Maps.with_relation
+            (fetched_view self.old) start.now kind end.now found) }
+        ensures err { OnErr result (fetched_view self.new ≡ fetched_view self.old) }
     {
         match self.relations.insert((*start, kind.text(), *end), found) {
             Ok(_) => Ok(()),
@@ -139,8 +141,8 @@ impl Fetched {
 
     fn put_end(&mut self, start: &Lei, kind: RelationType, found: Seen<Lei>) -> Result<(), NoMemory>
         ensures put { OnOk result
-            (cells_in self.new ≡ Maps.with_end (cells_in self.old) start.now kind found) }
-        ensures err { OnErr result (cells_in self.new ≡ cells_in self.old) }
+            (fetched_view self.new ≡ Maps.with_active_end (fetched_view self.old) start.now kind found) }
+        ensures err { OnErr result (fetched_view self.new ≡ fetched_view self.old) }
     {
         match self.ends.insert((*start, kind.text()), found) {
             Ok(_) => Ok(()),
@@ -155,8 +157,8 @@ impl Fetched {
         found: Seen<()>,
     ) -> Result<(), NoMemory>
         ensures put { OnOk result
-            (cells_in self.new ≡ Maps.with_exception (cells_in self.old) lei.now category found) }
-        ensures err { OnErr result (cells_in self.new ≡ cells_in self.old) }
+            (fetched_view self.new ≡ Maps.with_exception (fetched_view self.old) lei.now category found) }
+        ensures err { OnErr result (fetched_view self.new ≡ fetched_view self.old) }
     {
         match self.exceptions.insert((*lei, category.text()), found) {
             Ok(_) => Ok(()),
@@ -166,14 +168,14 @@ impl Fetched {
 
     fn put_holder(&mut self, authority: &str, id: &str, found: Seen<Lei>) -> Result<(), NoMemory>
         ensures put { OnOk result
-            (cells_in self.new ≡ Maps.with_holder (cells_in self.old) authority.now id.now found) }
-        ensures err { OnErr result (cells_in self.new ≡ cells_in self.old) }
+            (fetched_view self.new ≡ Maps.with_holder (fetched_view self.old) authority.now id.now found) }
+        ensures err { OnErr result (fetched_view self.new ≡ fetched_view self.old) }
     {
         insert_holder(self.alloc, &mut self.holders, authority, id, found)
     }
 
     fn found_holder(&self, authority: &str, id: &str) -> Option<Seen<Lei>>
-        ensures { result ≡ texts_at self.now.holders authority.now id.now }
+        ensures { result ≡ value_at_texts self.now.holders authority.now id.now }
     {
         let ids = self.holders.get(authority)?;
         ids.get(id).copied()
@@ -187,9 +189,10 @@ fn insert_holder(
     id: &str,
     found: Seen<Lei>,
 ) -> Result<(), NoMemory>
-    ensures put { OnOk result ((a i : List ℕ) → texts_at holders.new a i
-        ≡ (if bytes_eq authority.now a && bytes_eq id.now i then Some found else texts_at holders.old a i)) }
-    ensures err { OnErr result ((a i : List ℕ) → texts_at holders.new a i ≡ texts_at holders.old a i) }
+    ensures put { OnOk result ((a i : List ℕ) → value_at_texts holders.new a i
+        ≡ (if bytes_eq authority.now a && bytes_eq id.now i then Some found else value_at_texts holders.old a i)) }
+    ensures err { OnErr result ((a i : List ℕ)
+        → value_at_texts holders.new a i ≡ value_at_texts holders.old a i) }
 {
     let id = String::from_str(alloc, id)?;
     match holders.get_mut(authority) {
@@ -207,10 +210,11 @@ fn insert_first(
     found: Seen<Lei>,
 ) -> Result<(), NoMemory>
     requires { get_by_text holders.old authority.now ≡ None }
-    ensures put { OnOk result ((a i : List ℕ) → texts_at holders.new a i
+    ensures put { OnOk result ((a i : List ℕ) → value_at_texts holders.new a i
         ≡ (if bytes_eq authority.now a && bytes_eq (string_bytes id) i then Some found
-        else texts_at holders.old a i)) }
-    ensures err { OnErr result ((a i : List ℕ) → texts_at holders.new a i ≡ texts_at holders.old a i) }
+        else value_at_texts holders.old a i)) }
+    ensures err { OnErr result ((a i : List ℕ)
+        → value_at_texts holders.new a i ≡ value_at_texts holders.old a i) }
 {
     let mut ids = BTreeMap::new(alloc);
     insert_id(&mut ids, id, found)?;

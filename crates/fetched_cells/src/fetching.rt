@@ -1,7 +1,7 @@
 //! Fetching the cells that items may need.
 ghost use Rattle.std.specs.Prelude.{IfOk, take};
 ghost use Rattle.fetched_cells.specs.Fetching.{HasJust, fetched_keys};
-ghost use Rattle.fetched_cells.specs.Maps.{cells_in};
+ghost use Rattle.fetched_cells.specs.Maps.{fetched_view};
 
 use crate::fetched::Fetched;
 use crate::filling::Filling;
@@ -19,7 +19,7 @@ pub fn fetch<V: View>(
     keys: &[CellKey],
     most: u32,
 ) -> Result<Fetched, NoMemory>
-    ensures { IfOk result (λ fetched. HasJust (cells_in fetched) (V.cells view.now)
+    ensures { IfOk result (λ fetched. HasJust (fetched_view fetched) (V.cells view.now)
         (take most (fetched_keys (V.cells view.now) keys.now))) }
 {
     let mut filling = Filling {

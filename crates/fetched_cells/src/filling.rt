@@ -2,8 +2,8 @@
 ghost use Rattle.std.specs.Prelude.{◌≡◌, [], ◌∷◌, map, OnOk};
 ghost use Rattle.lei_records.specs.declared.view.CellKey.{CellKey};
 ghost use Rattle.cell_reads.specs.Needs.{parent_walk};
-ghost use Rattle.fetched_cells.specs.Fetching.{brought, fetched_keys, nearest_records};
-ghost use Rattle.fetched_cells.specs.Filling.{Adds, member_keys};
+ghost use Rattle.fetched_cells.specs.Fetching.{fetched_keys, keys_along, nearest_records};
+ghost use Rattle.fetched_cells.specs.Filling.{AddsCells, member_keys};
 
 use crate::fetched::Fetched;
 use crate::nearest::nearest;
@@ -29,7 +29,7 @@ impl Filling {
     /// Copies the cells with the keys, each followed by the cells that are fetched along with it, as long as there is
     /// room.
     pub fn add_all<V: View>(&mut self, view: &V, keys: &[CellKey]) -> Result<(), NoMemory>
-        ensures { OnOk result (Adds (V.cells view.now) self.old self.new
+        ensures { OnOk result (AddsCells (V.cells view.now) self.old self.new
             (fetched_keys (V.cells view.now) keys.now)) }
     {
         for key in keys {
@@ -42,8 +42,8 @@ impl Filling {
     }
 
     fn add_named<V: View>(&mut self, view: &V, key: &CellKey) -> Result<(), NoMemory>
-        ensures { OnOk result (Adds (V.cells view.now) self.old self.new
-            (key.now ∷ brought (V.cells view.now) key.now)) }
+        ensures { OnOk result (AddsCells (V.cells view.now) self.old self.new
+            (key.now ∷ keys_along (V.cells view.now) key.now)) }
     {
         self.add(view, key)?;
         match key {
@@ -54,8 +54,8 @@ impl Filling {
 
     // Copies the cells that are fetched along with the record of an LEI.
     fn add_walks<V: View>(&mut self, view: &V, lei: &Lei) -> Result<(), NoMemory>
-        ensures { OnOk result (Adds (V.cells view.now) self.old self.new
-            (brought (V.cells view.now) (CellKey.Rec lei.now))) }
+        ensures { OnOk result (AddsCells (V.cells view.now) self.old self.new
+            (keys_along (V.cells view.now) (CellKey.Rec lei.now))) }
     {
         self.add_successors(view, lei)?;
         self.add_parents(view, lei)
@@ -63,7 +63,7 @@ impl Filling {
 
     // Copies the records of the LEIs that are nearest by levels.
     fn add_successors<V: View>(&mut self, view: &V, lei: &Lei) -> Result<(), NoMemory>
-        ensures { OnOk result (Adds (V.cells view.now) self.old self.new
+        ensures { OnOk result (AddsCells (V.cells view.now) self.old self.new
             (nearest_records (V.cells view.now) lei.now)) }
     {
         if self.left == 0 {
@@ -74,7 +74,7 @@ impl Filling {
     }
 
     fn add_records<V: View>(&mut self, view: &V, leis: &[Lei]) -> Result<(), NoMemory>
-        ensures { OnOk result (Adds (V.cells view.now) self.old self.new (map CellKey.Rec leis.now)) }
+        ensures { OnOk result (AddsCells (V.cells view.now) self.old self.new (map CellKey.Rec leis.now)) }
     {
         for lei in leis {
             if self.left == 0 {
@@ -86,7 +86,7 @@ impl Filling {
     }
 
     fn add_parents<V: View>(&mut self, view: &V, lei: &Lei) -> Result<(), NoMemory>
-        ensures { OnOk result (Adds (V.cells view.now) self.old self.new
+        ensures { OnOk result (AddsCells (V.cells view.now) self.old self.new
             (parent_walk (V.cells view.now) lei.now)) }
     {
         self.add_walk(view, &ParentChain { view }, lei)
@@ -99,7 +99,7 @@ impl Filling {
         chain: &C,
         first: &Lei,
     ) -> Result<(), NoMemory>
-        ensures { OnOk result (Adds (V.cells view.now) self.old self.new
+        ensures { OnOk result (AddsCells (V.cells view.now) self.old self.new
             (member_keys 200 (C.cell chain.now) (C.answers chain.now) first.now)) }
     {
         let mut member = *first;
@@ -119,7 +119,7 @@ impl Filling {
 
     // Copies one cell, if there is room.
     fn add<V: View>(&mut self, view: &V, key: &CellKey) -> Result<(), NoMemory>
-        ensures { OnOk result (Adds (V.cells view.now) self.old self.new (key.now ∷ [])) }
+        ensures { OnOk result (AddsCells (V.cells view.now) self.old self.new (key.now ∷ [])) }
     {
         if self.left == 0 {
             return Ok(());

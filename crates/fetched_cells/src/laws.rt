@@ -13,9 +13,9 @@ ghost use Rattle.lei_records.specs.declared.view.CellKey.{CellKey};
 ghost use Rattle.lei_records.specs.Cells.{Cells};
 ghost use Rattle.successor_rules.specs.Chains.{Nexts};
 ghost use Rattle.successor_rules.specs.Levels.{others};
-ghost use Rattle.cell_reads.specs.Needs.{names, needs};
+ghost use Rattle.cell_reads.specs.Needs.{named_cells, needs};
 ghost use Rattle.fetched_cells.specs.Fetching.{LevelsEnd, fetched_keys};
-ghost use Rattle.fetched_cells.specs.Nearest.{by_levels, in_order};
+ghost use Rattle.fetched_cells.specs.Nearest.{by_levels, distinct_leis};
 
 /// Each cell that an item needs over a view, by whichever rules, is fetched from that view for the cells that the item
 /// names. For a record, its walk by levels must end there: it has at most 200 LEIs, and the record's own isn't one of
@@ -26,7 +26,7 @@ ghost use Rattle.fetched_cells.specs.Nearest.{by_levels, in_order};
 /// may lack a needed cell. The upload is then judged in its turn.
 pub fn needed_cells_are_fetched()
     ensures { (rules : Rules) (cells : Cells) (item : Readied) (key : CellKey) → LevelsEnd cells item
-        → Contains (needs rules cells item) key → Contains (fetched_keys cells (names item)) key }
+        → Contains (needs rules cells item) key → Contains (fetched_keys cells (named_cells item)) key }
 {}
 
 /// The LEIs of n levels from what an entity names are those of the walk by levels, other than its own. Each of them
@@ -37,5 +37,5 @@ pub fn nearest_leis_are_those_of_levels()
         ≡ is_member bytes_eq (others n nexts own (nexts own)) lei }
     ensures distinct { (n : ℕ) (nexts : Nexts) (own : Lei)
         → IsDistinct bytes_eq (by_levels n nexts (own ∷ []) (own ∷ [])) }
-    ensures ordered { (leis : List Lei) → IsStrictlySortedBy (slice_cmp nat_cmp) (in_order leis) }
+    ensures ordered { (leis : List Lei) → IsStrictlySortedBy (slice_cmp nat_cmp) (distinct_leis leis) }
 {}

@@ -10,11 +10,11 @@ use Rattle.copy_csv.specs.declared.heads.Head.{Head}
 use Rattle.copy_forms.specs.Files.{IsCopy, IsCopyRead}
 use Rattle.delta_apply.specs.Applying.{IsNoCopy, IsSomeCopy}
 use Rattle.group_reports.specs.declared.faults.GroupFault.TheVariants as faults
-use Rattle.group_reports.specs.Links.{GroupTable, IsRefusal, IsTableOf, Link, Name, publication_in}
+use Rattle.group_reports.specs.Links.{GroupTable, IsGroupFault, IsGroupTable, Link, Name, head_publication}
 use Rattle.register_words.specs.declared.sheets.Form.{Form}
 use Rattle.register_words.specs.declared.sheets.Sheet.{Sheet}
-use Rattle.file_commands.specs.Grouping.{Copies, GoTogether, IsReport, IsReportOf, Reports, UnlessNoMemory, group_refusal, is_known, outcome_of, report_text, table_of}
-use Rattle.file_commands.specs.TwoFiles.{TellsOf, TellsOutcome}
+use Rattle.file_commands.specs.Grouping.{AreCopies, GoTogether, IsReport, IsReportOf, Reports, UnlessGroupLacksMemory, group_outcome, group_refusal, group_table, is_known, report_text}
+use Rattle.file_commands.specs.TwoFiles.{WritesOutcome, WritesResultOf}
 use Rattle.file_commands.specs.declared.grouping.GroupRefusal.{GroupRefusal}
 use Rattle.file_commands.specs.declared.grouping.GroupRefusal.TheVariants as refusals
 
@@ -59,11 +59,11 @@ heads_read form lei rr first second is also = head_read lei Sheet.Lei form first
 
 -- the rows of two copies are those that a table is taken from
 record AreRowsOf (lei rr : Text) (form : Form) (first second : CopyRead) : Type 0 where
-  pub copies : Copies lei rr form
+  pub copies : AreCopies lei rr form
   pub first_rows : copies.lei_rows ≡ first.rows
   pub second_rows : copies.rr_rows ≡ second.rows
-  pub first_number : form ≡ Form.Json → publication_in first.head ≡ Some copies.lei_head.publication
-  pub second_number : form ≡ Form.Json → publication_in second.head ≡ Some copies.rr_head.publication
+  pub first_number : form ≡ Form.Json → head_publication first.head ≡ Some copies.lei_head.publication
+  pub second_number : form ≡ Form.Json → head_publication second.head ≡ Some copies.rr_head.publication
 
 copies_read : (form : Form) (lei rr : Text) (first second : CopyRead) → IsCopyRead lei Sheet.Lei form first → IsCopyRead rr Sheet.Rr form second
     → AreRowsOf lei rr form first second
@@ -96,15 +96,15 @@ copies_read Form.Json lei rr first second is also = record {
   };
   first_rows = refl;
   second_rows = refl;
-  first_number = λ json. ap publication_in is.1;
-  second_number = λ json. ap publication_in also.1;
+  first_number = λ json. ap head_publication is.1;
+  second_number = λ json. ap head_publication also.1;
 }
 
 same_some : (p q : ℕ) → Some p ≡ Some q → p ≡ q
 same_some p q is = ap (λ o. unwrap_or o p) is
 
 go_together : (form : Form) (lei rr : Text) (first second : CopyRead) (read : AreRowsOf lei rr form first second)
-    → publication_in first.head ≡ publication_in second.head → GoTogether form read.copies.lei_head read.copies.rr_head
+    → head_publication first.head ≡ head_publication second.head → GoTogether form read.copies.lei_head read.copies.rr_head
 go_together Form.Csv lei rr first second read same = tt
 go_together Form.Json lei rr first second read same =
     same_some _ _ (sym (read.first_number refl) ∙ (same ∙ read.second_number refl))
@@ -115,18 +115,18 @@ same_table table names links is also = subst (λ n. table ≡ record { names = n
     (subst (λ l. table ≡ record { names = table.names; links = l }) also refl)
 
 table_read : (form : Form) (lei rr : Text) (first second : CopyRead) (table : GroupTable) (read : AreRowsOf lei rr form first second)
-    → IsTableOf first.rows second.rows table → table ≡ table_of read.copies.lei_rows read.copies.rr_rows
+    → IsGroupTable first.rows second.rows table → table ≡ group_table read.copies.lei_rows read.copies.rr_rows
 table_read form lei rr first second table read is =
-    subst (λ rows. table ≡ table_of rows read.copies.rr_rows) (sym read.first_rows)
-    (subst (λ rows. table ≡ table_of first.rows rows) (sym read.second_rows)
+    subst (λ rows. table ≡ group_table rows read.copies.rr_rows) (sym read.first_rows)
+    (subst (λ rows. table ≡ group_table first.rows rows) (sym read.second_rows)
     (same_table table _ _ is.names_are is.links_are))
 
 -- ---- the required answer
 
 -- from groups that were opened
 pub reports_by : (who : Text) (form : Form) (lei rr : Text) (first second : CopyRead) (table : GroupTable) (answer : Result Text GroupRefusal)
-    → IsCopyRead lei Sheet.Lei form first → IsCopyRead rr Sheet.Rr form second → publication_in first.head ≡ publication_in second.head
-    → IsTableOf first.rows second.rows table → IsReportOf table who answer → UnlessNoMemory answer (IsReport who form lei rr answer)
+    → IsCopyRead lei Sheet.Lei form first → IsCopyRead rr Sheet.Rr form second → head_publication first.head ≡ head_publication second.head
+    → IsGroupTable first.rows second.rows table → IsReportOf table who answer → UnlessGroupLacksMemory answer (IsReport who form lei rr answer)
 reports_by who form lei rr first second table answer is also same of_rows done = by answer done
   where
     read : AreRowsOf lei rr form first second
@@ -135,10 +135,10 @@ reports_by who form lei rr first second table answer is also same of_rows done =
     go : GoTogether form read.copies.lei_head read.copies.rr_head
     go = go_together form lei rr first second read same
 
-    at : table ≡ table_of read.copies.lei_rows read.copies.rr_rows
+    at : table ≡ group_table read.copies.lei_rows read.copies.rr_rows
     at = table_read form lei rr first second table read of_rows
 
-    by : (answer : Result Text GroupRefusal) → IsReportOf table who answer → UnlessNoMemory answer (IsReport who form lei rr answer)
+    by : (answer : Result Text GroupRefusal) → IsReportOf table who answer → UnlessGroupLacksMemory answer (IsReport who form lei rr answer)
     by (Ok text) done = (
       read.copies,
       go,
@@ -154,9 +154,9 @@ reports_by who form lei rr first second table answer is also same of_rows done =
 -- for two copies of different publications
 pub other_publication : (who : Text) (form : Form) (lei rr : Text) (first second : CopyRead) (p q : ℕ)
     → IsCopyRead lei Sheet.Lei form first → IsCopyRead rr Sheet.Rr form second
-    → IsRefusal first.head second.head (faults.OtherPublication p q) → IsReport who form lei rr (Err (refusals.OtherPublication p q))
+    → IsGroupFault first.head second.head (faults.OtherPublication p q) → IsReport who form lei rr (Err (refusals.OtherPublication p q))
 other_publication who Form.Csv lei rr first second p q is also refusal =
-    let none : None ≡ Some p = sym (ap publication_in is.0) ∙ refusal.0 in cc
+    let none : None ≡ Some p = sym (ap head_publication is.0) ∙ refusal.0 in cc
 other_publication who Form.Json lei rr first second p q is also refusal =
     let read = copies_read Form.Json lei rr first second is also in (
       refl,
@@ -167,7 +167,7 @@ other_publication who Form.Json lei rr first second p q is also refusal =
     )
 
 -- an answer that isn't lack of memory is the required one
-pub reported : (refusal : GroupRefusal) {P : Type 0} → refusal ≢ refusals.NoMemory → UnlessNoMemory (Err refusal) P → P
+pub reported : (refusal : GroupRefusal) {P : Type 0} → refusal ≢ refusals.NoMemory → UnlessGroupLacksMemory (Err refusal) P → P
 reported refusals.LeiCopyNotRead other is = is
 reported refusals.RrCopyNotRead other is = is
 reported (refusals.OtherPublication p q) other is = is
@@ -176,6 +176,6 @@ reported refusals.NoMemory other is = absurd (other refl)
 
 -- an answer was written
 pub report_told : (who : Text) (form : Form) (lei rr : Text) (answer : Result Text GroupRefusal) (before after : Option (List ℕ)) (status : ℕ)
-    → IsReport who form lei rr answer → TellsOutcome (outcome_of answer) before after status
-    → TellsOf (Reports who form) lei rr before after status
-report_told who form lei rr answer before after status is tells = inl (outcome_of answer, (answer, is, refl), tells)
+    → IsReport who form lei rr answer → WritesOutcome (group_outcome answer) before after status
+    → WritesResultOf (Reports who form) lei rr before after status
+report_told who form lei rr answer before after status is tells = inl (group_outcome answer, (answer, is, refl), tells)

@@ -8,7 +8,7 @@ use Rattle.mirror_queries.proofs.Served.{serves_follow}
 use Rattle.mirror_queries.proofs.Steps.{empty_follows}
 use Rattle.request_loop.specs.Serving.{Serves}
 use Rattle.request_loop.specs.declared.frames.Ended.{Ended}
-use Rattle.file_commands.specs.Files.{input_limit}
+use Rattle.file_commands.specs.Files.{run_limit}
 use Rattle.file_commands.specs.Mirroring.{AnswersMirror, CompletesMirror, Mirrors}
 use Rattle.file_commands.specs.Sides.{Sides}
 use Rattle.file_commands.specs.Status.{end_status, ended_as}
@@ -17,11 +17,11 @@ use Rattle.file_commands.proofs.Serving.{at_status, ended_status, served_to_end}
 -- queries were served starting from an empty mirror
 pub mirrored : (before after : Sides) (status : ℕ) (first last : MirrorState) (ended : Ended NoEnd)
     → status ≡ end_status (ended_as ended) → first ≡ empty_mirror
-    → Serves MirrorStep mirror_rules input_limit (mirror_progress first before.written) before.left
+    → Serves MirrorStep mirror_rules run_limit (mirror_progress first before.written) before.left
     (mirror_progress last after.written) after.left ended
     → AnswersMirror before after status
 mirrored before after status first last ended status_is is serves =
-    let S : MirrorState → Type 0 = λ state. Serves MirrorStep mirror_rules input_limit
+    let S : MirrorState → Type 0 = λ state. Serves MirrorStep mirror_rules run_limit
     (mirror_progress state before.written) before.left (mirror_progress last after.written) after.left ended in
     let served = subst S is serves in
     record {
@@ -29,7 +29,7 @@ mirrored before after status first last ended status_is is serves =
       ended = ended;
       status_is = status_is;
       serves = served;
-      follows = λ trail on few of. (serves_follow trail on few input_limit (mirror_progress empty_mirror before.written)
+      follows = λ trail on few of. (serves_follow trail on few run_limit (mirror_progress empty_mirror before.written)
           (mirror_progress last after.written) before.left after.left ended (empty_follows trail) served of).1;
     }
 

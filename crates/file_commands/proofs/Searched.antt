@@ -8,7 +8,7 @@ use Rattle.copy_forms.specs.Files.{IsCopyRead}
 use Rattle.delta_apply.specs.Applying.{IsNoCopy}
 use Rattle.search_queries.specs.Searches.{SearchStep, state_of}
 use Rattle.search_queries.specs.Serving.{search_progress, search_rules}
-use Rattle.file_commands.specs.Files.{IsFileStop, input_limit}
+use Rattle.file_commands.specs.Files.{IsFileStop, run_limit}
 use Rattle.file_commands.specs.Searching.{AnswersAllQueries, AnswersCopy, AnswersFrom, CompletesSearch, Searches}
 use Rattle.file_commands.specs.Sides.{Sides, sides}
 use Rattle.file_commands.specs.Status.{stop_status}
@@ -48,7 +48,7 @@ search_status form before after status (inr leaves) =
 
 -- all of the told queries were answered
 answers_all : (form : Form) (queries copy : Text) (before after : Files) (status : ℕ) (read : CopyRead) → IsCopyRead copy Sheet.Lei form read
-    → before.first ≡ Some queries → length queries < input_limit → status ≢ 3 → status ≢ 4 → status ≢ 6
+    → before.first ≡ Some queries → length queries < run_limit → status ≢ 3 → status ≢ 4 → status ≢ 6
     → AnswersFrom form (state_of read) (sides before.first before.written) (sides after.first after.written) status
     → AnswersAllQueries form queries copy before after status
 answers_all form queries copy before after status read is told short n3 n4 n6 answers =

@@ -4,7 +4,7 @@ use Rattle.line_reading.specs.declared.framing.NoEnd.{NoEnd}
 use Rattle.request_loop.specs.Frames.{Rules}
 use Rattle.request_loop.specs.Serving.{AnswersToEnd, EndsWith, Progress, Serves}
 use Rattle.request_loop.specs.declared.frames.Ended.{Ended}
-use Rattle.file_commands.specs.Files.{input_limit}
+use Rattle.file_commands.specs.Files.{run_limit}
 use Rattle.file_commands.specs.Status.{end_status, ended_as}
 use Rattle.file_commands.proofs.TwoFilesRead.{told_whole, told_within}
 
@@ -30,14 +30,14 @@ at_status status other is (inr (inr eight)) = inr (inr (is ∙ eight))
 -- all of a told input was answered
 pub served_to_end : {A W P : Type 0} (step : A → W → List ℤ → P → A → Type 0) (rules : Rules W P NoEnd)
     (start now : Progress A) (queries : List ℕ) (left left_now : Option (List ℕ)) (status : ℕ) (ended : Ended NoEnd)
-    → left ≡ Some queries → length queries < input_limit → status ≢ 3 → status ≢ 4 → status ≢ 6 → status ≡ end_status (ended_as ended)
-    → Serves step rules input_limit start left now left_now ended
+    → left ≡ Some queries → length queries < run_limit → status ≢ 3 → status ≢ 4 → status ≢ 6 → status ≡ end_status (ended_as ended)
+    → Serves step rules run_limit start left now left_now ended
     → (status ≡ 0) × AnswersToEnd step rules start queries now
 served_to_end step rules start now queries left left_now status ended told short n3 n4 n6 is serves =
     by ended is serves.ends
   where
     by : (ended : Ended NoEnd) → status ≡ end_status (ended_as ended)
-        → EndsWith step rules input_limit ended start serves.bytes left_now now
+        → EndsWith step rules run_limit ended start serves.bytes left_now now
         → (status ≡ 0) × AnswersToEnd step rules start queries now
     by Ended.AtEnd at ends = (
       at,

@@ -6,7 +6,7 @@ use Rattle.lei_code.specs.Texts.{Text}
 use Rattle.lei_outside.specs.Count.{Rose}
 use Rattle.lei_outside.specs.Faults.{FailsLast}
 use Rattle.lei_outside.specs.Told.{IsAtEnd, Loses}
-use Rattle.file_commands.specs.TwoFiles.{AreLeft, CompletesFiles, DoesWithFiles, FailsOneOf, Files, Outcome, Rule, TellsOf, outcome_status}
+use Rattle.file_commands.specs.TwoFiles.{AreLeft, CompletesFiles, DoesWithFiles, FailsOneOf, FileOutcome, Files, Rule, WritesResultOf, outcome_status}
 use Rattle.file_commands.specs.Files.{IsFileStop, IsReadToLimit, IsReadWhole, file_limit}
 use Rattle.file_commands.specs.Status.{end_status, stop_status}
 use Rattle.file_commands.specs.declared.status.Stop.{Stop}
@@ -89,7 +89,7 @@ stopped_status (Err e) stop is = ap stop_status is
 -- ---- the outcome for files
 
 pub files_told : (before after : Files) (first second : List ℕ) (status : ℕ) (rule : Rule) → IsReadWhole before.first after.first first
-    → IsReadWhole before.second after.second second → TellsOf rule first second before.written after.written status → DoesWithFiles rule before after status
+    → IsReadWhole before.second after.second second → WritesResultOf rule first second before.written after.written status → DoesWithFiles rule before after status
 files_told before after first second status rule first_read second_read tells = inl (record {
   first = first;
   second = second;
@@ -100,11 +100,11 @@ files_told before after first second status rule first_read second_read tells = 
 
 -- ---- the statuses
 
-answer_low : (outcome : Outcome) → outcome_status outcome ≤ 2
+answer_low : (outcome : FileOutcome) → outcome_status outcome ≤ 2
 answer_low (Ok first) = omega arith
 answer_low (Err fault) = omega arith
 
-tells_low : (rule : Rule) (first second : Text) (before after : Option (List ℕ)) (status : ℕ) → TellsOf rule first second before after status
+tells_low : (rule : Rule) (first second : Text) (before after : Option (List ℕ)) (status : ℕ) → WritesResultOf rule first second before after status
     → (status ≤ 4) ⊎ (status ≡ 6)
 tells_low rule first second before after status (inl (outcome, is, inl told)) = inl (omega (arith, answer_low outcome, told.0))
 tells_low rule first second before after status (inl (outcome, is, inr (inl failed))) = inl (omega (arith, failed.0))

@@ -8,15 +8,15 @@ use Rattle.lei_code.specs.declared.fault.LeiFault.TheVariants.{Length, Character
 use Rattle.lei_outside.specs.Told.{Grows, WritesFront}
 
 -- The words of a fault, with the position of a character that isn't allowed there, counted from 1.
-abbrev pub fault_words : LeiFault → Text
-fault_words Length = codes "LENGTH"
-fault_words (Character position) = codes "CHARACTER " ++ decimal position
-fault_words CheckDigits = codes "CHECK_DIGITS"
+abbrev pub lei_fault_words : LeiFault → Text
+lei_fault_words Length = codes "LENGTH"
+lei_fault_words (Character position) = codes "CHARACTER " ++ decimal position
+lei_fault_words CheckDigits = codes "CHECK_DIGITS"
 
 -- The line with a text, or with the fault if there is one.
 abbrev pub line_or : Text → Option LeiFault → Text
 line_or text None = text ++ 10 ∷ []
-line_or text (Some fault) = (codes "refused " ++ fault_words fault) ++ 10 ∷ []
+line_or text (Some fault) = (codes "refused " ++ lei_fault_words fault) ++ 10 ∷ []
 
 -- Whether the text is an LEI, or why it isn't.
 abbrev pub check_line : Text → Text
@@ -32,14 +32,14 @@ abbrev pub digits_line : Text → Text
 digits_line text = line_or (digits text) (digits_fault text)
 
 -- The status if a line is written: 0, or 2 if it reports a fault.
-abbrev pub told_status : Option LeiFault → ℕ
-told_status None = 0
-told_status (Some fault) = 2
+abbrev pub code_status : Option LeiFault → ℕ
+code_status None = 0
+code_status (Some fault) = 2
 
 -- How a command that writes this line ends, by its status. The whole line was written. Or a write failed, or memory ran
 -- out, and a front of the line was written but not all of it.
-abbrev pub TellsLine : Option LeiFault → Text → Option (List ℕ) → Option (List ℕ) → ℕ → Type 0
-TellsLine fault line before after status =
-    ((status ≡ told_status fault) × Grows before after line)
+abbrev pub WritesLine : Option LeiFault → Text → Option (List ℕ) → Option (List ℕ) → ℕ → Type 0
+WritesLine fault line before after status =
+    ((status ≡ code_status fault) × Grows before after line)
     ⊎ ((status ≡ 4) × WritesFront before after line)
     ⊎ ((status ≡ 6) × WritesFront before after line)

@@ -9,8 +9,8 @@ abbrev pub file_limit : ℕ
 file_limit = 1_073_741_824
 
 -- A run over lines ends if it has read 4,294,967,296 bytes (4 GiB).
-abbrev pub input_limit : ℕ
-input_limit = 4_294_967_296
+abbrev pub run_limit : ℕ
+run_limit = 4_294_967_296
 
 -- These bytes were read, and the file ends after them. Their number is below the one at which reading ends.
 pub record IsReadWhole (before after : Option (List ℕ)) (bytes : List ℕ) : Type 0 where

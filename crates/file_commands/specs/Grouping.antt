@@ -6,18 +6,18 @@ use Rattle.copy_csv.specs.Sheets.{SheetRow}
 use Rattle.copy_csv.specs.declared.heads.Head.{Head}
 use Rattle.copy_forms.specs.Files.{IsCopy}
 use Rattle.delta_apply.specs.Applying.{IsNoCopy, IsSomeCopy}
-use Rattle.group_reports.specs.Links.{GroupTable, link_of, name_at, named}
+use Rattle.group_reports.specs.Links.{GroupTable, key_and_name, link_of, name_at}
 use Rattle.group_reports.specs.Reports.{disagreement_report, group_report}
 use Rattle.register_words.specs.declared.sheets.Form.{Form}
 use Rattle.register_words.specs.declared.sheets.Sheet.{Sheet}
-use Rattle.file_commands.specs.TwoFiles.{Outcome, Rule}
+use Rattle.file_commands.specs.TwoFiles.{FileOutcome, Rule}
 use Rattle.file_commands.specs.declared.grouping.GroupRefusal.{GroupRefusal}
 use Rattle.file_commands.specs.declared.grouping.GroupRefusal.TheVariants as refusals
 
 -- ---- two copies
 
 -- A copy of `lei` and one of `rr`, with their contents.
-pub record Copies (lei rr : Text) (form : Form) : Type 0 where
+pub record AreCopies (lei rr : Text) (form : Form) : Type 0 where
   pub lei_head : Head
   pub lei_wide : Bool
   pub lei_rows : List SheetRow
@@ -33,8 +33,8 @@ GoTogether Form.Csv lei rr = ⊤
 GoTogether Form.Json lei rr = lei.publication ≡ rr.publication
 
 -- What a report uses from two copies.
-abbrev pub table_of : List SheetRow → List SheetRow → GroupTable
-table_of lei rr = record { names = map named lei; links = map link_of rr }
+abbrev pub group_table : List SheetRow → List SheetRow → GroupTable
+group_table lei rr = record { names = map key_and_name lei; links = map link_of rr }
 
 -- ---- the subject of a report
 
@@ -57,17 +57,17 @@ report_text table who = if is_all who then disagreement_report table else group_
 -- is never a required answer.
 abbrev pub IsReport : Text → Form → Text → Text → Result Text GroupRefusal → Type 0
 IsReport who form lei rr (Ok text) =
-    (copies : Copies lei rr form) × GoTogether form copies.lei_head copies.rr_head
-    × (is_known (table_of copies.lei_rows copies.rr_rows) who ≡ true)
-    × (text ≡ report_text (table_of copies.lei_rows copies.rr_rows) who)
+    (copies : AreCopies lei rr form) × GoTogether form copies.lei_head copies.rr_head
+    × (is_known (group_table copies.lei_rows copies.rr_rows) who ≡ true)
+    × (text ≡ report_text (group_table copies.lei_rows copies.rr_rows) who)
 IsReport who form lei rr (Err refusals.LeiCopyNotRead) = IsNoCopy lei Sheet.Lei form
 IsReport who form lei rr (Err refusals.RrCopyNotRead) = IsSomeCopy lei Sheet.Lei form × IsNoCopy rr Sheet.Rr form
 IsReport who form lei rr (Err (refusals.OtherPublication p q)) =
-    (form ≡ Form.Json) × (copies : Copies lei rr form) × (copies.lei_head.publication ≡ p)
+    (form ≡ Form.Json) × (copies : AreCopies lei rr form) × (copies.lei_head.publication ≡ p)
     × (copies.rr_head.publication ≡ q) × (p ≢ q)
 IsReport who form lei rr (Err refusals.LeiUnknown) =
-    (copies : Copies lei rr form) × GoTogether form copies.lei_head copies.rr_head
-    × (is_known (table_of copies.lei_rows copies.rr_rows) who ≡ false)
+    (copies : AreCopies lei rr form) × GoTogether form copies.lei_head copies.rr_head
+    × (is_known (group_table copies.lei_rows copies.rr_rows) who ≡ false)
 IsReport who form lei rr (Err refusals.NoMemory) = ⊥
 
 -- The required answer if this is taken from two copies that go together, unless memory ran out.
@@ -80,13 +80,13 @@ IsReportOf table who (Err refusals.LeiUnknown) = is_known table who ≡ false
 IsReportOf table who (Err refusals.NoMemory) = ⊤
 
 -- This holds, unless memory ran out.
-abbrev pub UnlessNoMemory : Result Text GroupRefusal → Type 0 → Type 0
-UnlessNoMemory (Ok text) P = P
-UnlessNoMemory (Err refusals.LeiCopyNotRead) P = P
-UnlessNoMemory (Err refusals.RrCopyNotRead) P = P
-UnlessNoMemory (Err (refusals.OtherPublication p q)) P = P
-UnlessNoMemory (Err refusals.LeiUnknown) P = P
-UnlessNoMemory (Err refusals.NoMemory) P = ⊤
+abbrev pub UnlessGroupLacksMemory : Result Text GroupRefusal → Type 0 → Type 0
+UnlessGroupLacksMemory (Ok text) P = P
+UnlessGroupLacksMemory (Err refusals.LeiCopyNotRead) P = P
+UnlessGroupLacksMemory (Err refusals.RrCopyNotRead) P = P
+UnlessGroupLacksMemory (Err (refusals.OtherPublication p q)) P = P
+UnlessGroupLacksMemory (Err refusals.LeiUnknown) P = P
+UnlessGroupLacksMemory (Err refusals.NoMemory) P = ⊤
 
 -- The line that says why there is no report.
 abbrev pub group_refusal : GroupRefusal → Text
@@ -98,11 +98,11 @@ group_refusal refusals.LeiUnknown = codes "refused LEI_UNKNOWN\n"
 group_refusal refusals.NoMemory = []
 
 -- The outcome of an answer: the report, or why there is none.
-abbrev pub outcome_of : Result Text GroupRefusal → Outcome
-outcome_of (Ok text) = Ok text
-outcome_of (Err refusal) = Err (group_refusal refusal)
+abbrev pub group_outcome : Result Text GroupRefusal → FileOutcome
+group_outcome (Ok text) = Ok text
+group_outcome (Err refusal) = Err (group_refusal refusal)
 
 -- The outcome for two copies of this form, in a report on this subject.
 abbrev pub Reports : Text → Form → Rule
 Reports who form lei rr outcome =
-    (answer : Result Text GroupRefusal) × IsReport who form lei rr answer × (outcome ≡ outcome_of answer)
+    (answer : Result Text GroupRefusal) × IsReport who form lei rr answer × (outcome ≡ group_outcome answer)

@@ -1,6 +1,6 @@
 -- What the command that keeps a mirror of the three tables does. This project's profile.
 use Rattle.std.specs.Prelude.{◌≡◌, ◌<◌, ◌≤◌, ◌⊎◌, ℕ, ℤ, List, length, Some}
-use Rattle.copy_forms.specs.Trails.{IsSound, Trail}
+use Rattle.copy_forms.specs.Trails.{IsSoundTrail, Trail}
 use Rattle.lei_mirror.specs.Mirrors.{MirrorState, empty_mirror}
 use Rattle.line_reading.specs.declared.framing.NoEnd.{NoEnd}
 use Rattle.mirror_queries.specs.Answering.{MirrorAsked, MirrorStep}
@@ -9,15 +9,15 @@ use Rattle.mirror_queries.specs.Serving.{mirror_progress, mirror_rules}
 use Rattle.query_reading.specs.declared.reply.QueryReply.{QueryReply}
 use Rattle.request_loop.specs.Serving.{AnswersToEnd, Serves}
 use Rattle.request_loop.specs.declared.frames.Ended.{Ended}
-use Rattle.file_commands.specs.Files.{input_limit}
-use Rattle.file_commands.specs.Sides.{LacksMemory, Sides}
+use Rattle.file_commands.specs.Files.{run_limit}
+use Rattle.file_commands.specs.Sides.{Sides, StartsWithoutMemory}
 use Rattle.file_commands.specs.Status.{end_status, ended_as}
 
 -- Queries were answered starting from the empty mirror, by steps of this kind.
 abbrev pub ServesMirror : (MirrorState → MirrorAsked → List ℤ → QueryReply → MirrorState → Type 0) → Sides → Sides
     → MirrorState → Ended NoEnd → Type 0
 ServesMirror step before after last ended =
-    Serves step mirror_rules input_limit (mirror_progress empty_mirror before.written) before.left
+    Serves step mirror_rules run_limit (mirror_progress empty_mirror before.written) before.left
     (mirror_progress last after.written) after.left ended
 
 -- If all packets in the bytes that were taken belong to the trail, each file that was shown is the copy of the
@@ -33,12 +33,12 @@ pub record AnswersMirror (before after : Sides) (status : ℕ) : Type 0 where
   pub ended : Ended NoEnd
   pub status_is : status ≡ end_status (ended_as ended)
   pub serves : ServesMirror MirrorStep before after last ended
-  pub follows : (trail : Trail) → IsSound trail → length trail ≤ 1_000_000
+  pub follows : (trail : Trail) → IsSoundTrail trail → length trail ≤ 1_000_000
       → ShowsTrail trail before after last ended serves.bytes
 
 -- What the command does, by its status: queries were answered; or memory ran out before the first query.
 abbrev pub Mirrors : Sides → Sides → ℕ → Type 0
-Mirrors before after status = AnswersMirror before after status ⊎ LacksMemory before after status
+Mirrors before after status = AnswersMirror before after status ⊎ StartsWithoutMemory before after status
 
 -- ---- if nothing fails
 
@@ -52,5 +52,5 @@ pub record AnswersAllOfMirror (queries : List ℕ) (before after : Sides) (statu
 -- Queries that are told and short enough are all answered.
 abbrev pub CompletesMirror : Sides → Sides → ℕ → Type 0
 CompletesMirror before after status =
-    (queries : List ℕ) → before.left ≡ Some queries → length queries < input_limit
+    (queries : List ℕ) → before.left ≡ Some queries → length queries < run_limit
     → AnswersAllOfMirror queries before after status

@@ -12,10 +12,10 @@ use Rattle.request_loop.specs.declared.frames.Ended.{Ended}
 use Rattle.line_reading.specs.declared.framing.NoEnd.{NoEnd}
 use Rattle.search_queries.specs.Searches.{SearchState, SearchStep, state_of}
 use Rattle.search_queries.specs.Serving.{search_progress, search_rules}
-use Rattle.file_commands.specs.Files.{IsFileStop, IsReadWhole, file_limit, input_limit}
-use Rattle.file_commands.specs.Sides.{LacksMemory, Sides, sides}
+use Rattle.file_commands.specs.Files.{IsFileStop, IsReadWhole, file_limit, run_limit}
+use Rattle.file_commands.specs.Sides.{Sides, StartsWithoutMemory, sides}
 use Rattle.file_commands.specs.Status.{end_status, ended_as, stop_status}
-use Rattle.file_commands.specs.TwoFiles.{Files, TellsOutcome}
+use Rattle.file_commands.specs.TwoFiles.{Files, WritesOutcome}
 use Rattle.file_commands.specs.declared.status.Stop.{Stop}
 
 -- The first input has the queries, and the second file is the copy.
@@ -30,14 +30,14 @@ copy_refusal = codes "refused COPY_NOT_READ\n"
 pub record RefusesCopy (form : Form) (copy : Text) (before after : Sides) (status : ℕ) : Type 0 where
   pub none : IsNoCopy copy Sheet.Lei form
   pub unread : after.left ≡ before.left
-  pub tells : TellsOutcome (Err copy_refusal) before.written after.written status
+  pub tells : WritesOutcome (Err copy_refusal) before.written after.written status
 
 -- Queries were answered starting from this state, and how that ended gives the status.
 pub record AnswersFrom (form : Form) (first : SearchState) (before after : Sides) (status : ℕ) : Type 0 where
   pub last : SearchState
   pub ended : Ended NoEnd
   pub status_is : status ≡ end_status (ended_as ended)
-  pub serves : Serves (SearchStep form) search_rules input_limit (search_progress first before.written) before.left
+  pub serves : Serves (SearchStep form) search_rules run_limit (search_progress first before.written) before.left
       (search_progress last after.written) after.left ended
 
 -- The bytes are a copy, and queries were answered starting from it.
@@ -48,7 +48,7 @@ AnswersQueries form copy before after status =
 -- What the command does after it has read a copy to its end.
 abbrev pub AnswersCopy : Form → Text → Sides → Sides → ℕ → Type 0
 AnswersCopy form copy before after status =
-    RefusesCopy form copy before after status ⊎ LacksMemory before after status
+    RefusesCopy form copy before after status ⊎ StartsWithoutMemory before after status
     ⊎ AnswersQueries form copy before after status
 
 -- ---- how the command ends
@@ -87,6 +87,6 @@ pub record AnswersAllQueries (form : Form) (queries copy : Text) (before after :
 abbrev pub CompletesSearch : Form → Files → Files → ℕ → Type 0
 CompletesSearch form before after status =
     (queries copy : List ℕ) → before.first ≡ Some queries → before.second ≡ Some copy
-    → length queries < input_limit → length copy < file_limit
+    → length queries < run_limit → length copy < file_limit
     → (IsNoCopy copy Sheet.Lei form × (status ≡ 2) × Grows before.written after.written copy_refusal)
     ⊎ AnswersAllQueries form queries copy before after status

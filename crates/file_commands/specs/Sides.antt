@@ -11,7 +11,7 @@ abbrev pub sides : Option (List ℕ) → Option (List ℕ) → Sides
 sides left written = record { left = left; written = written }
 
 -- Memory ran out before the first query: nothing is written, and no query is read.
-pub record LacksMemory (before after : Sides) (status : ℕ) : Type 0 where
+pub record StartsWithoutMemory (before after : Sides) (status : ℕ) : Type 0 where
   pub is : status ≡ 6
   pub unread : after.left ≡ before.left
   pub unwritten : after.written ≡ before.written

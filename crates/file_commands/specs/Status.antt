@@ -40,10 +40,10 @@ ended_as Ended.InputLimit = Err stop.InputTooLong
 ended_as Ended.NoMemory = Err stop.NoMemory
 
 -- The word of a status, if there is one.
-abbrev pub word_of : Option ExitStatus → Text
-word_of (Some status) = exit_name status
-word_of None = codes "UNKNOWN"
+abbrev pub status_word : Option ExitStatus → Text
+status_word (Some status) = exit_name status
+status_word None = codes "UNKNOWN"
 
 -- The word of the status with this number.
-abbrev pub status_text : ℕ → Text
-status_text status = word_of (exit_of status)
+abbrev pub exit_text : ℕ → Text
+exit_text status = status_word (exit_of status)

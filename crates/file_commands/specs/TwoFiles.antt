@@ -10,34 +10,34 @@ use Rattle.file_commands.specs.declared.status.Stop.{Stop}
 -- ---- what is written
 
 -- The outcome for two files: a text, or the line that says why there is none.
-abbrev pub Outcome : Type 0
-Outcome = Result Text Text
+abbrev pub FileOutcome : Type 0
+FileOutcome = Result Text Text
 
 -- The bytes that are written for it.
-abbrev pub outcome_text : Outcome → Text
-outcome_text (Ok text) = text
-outcome_text (Err line) = line
+abbrev pub file_text : FileOutcome → Text
+file_text (Ok text) = text
+file_text (Err line) = line
 
 -- The status after that: 0, or 2 if there is no text.
-abbrev pub outcome_status : Outcome → ℕ
+abbrev pub outcome_status : FileOutcome → ℕ
 outcome_status (Ok text) = 0
 outcome_status (Err line) = 2
 
 -- The whole outcome was written; or a write failed, or memory ran out, and a front of it was written but not all.
-abbrev pub TellsOutcome : Outcome → Option (List ℕ) → Option (List ℕ) → ℕ → Type 0
-TellsOutcome outcome before after status =
-    ((status ≡ outcome_status outcome) × Grows before after (outcome_text outcome))
-    ⊎ ((status ≡ 4) × WritesFront before after (outcome_text outcome))
-    ⊎ ((status ≡ 6) × WritesFront before after (outcome_text outcome))
+abbrev pub WritesOutcome : FileOutcome → Option (List ℕ) → Option (List ℕ) → ℕ → Type 0
+WritesOutcome outcome before after status =
+    ((status ≡ outcome_status outcome) × Grows before after (file_text outcome))
+    ⊎ ((status ≡ 4) × WritesFront before after (file_text outcome))
+    ⊎ ((status ≡ 6) × WritesFront before after (file_text outcome))
 
 -- The outcome for the bytes of two files, by a rule.
 abbrev pub Rule : Type 1
-Rule = Text → Text → Outcome → Type 0
+Rule = Text → Text → FileOutcome → Type 0
 
 -- The outcome for two files was written; or nothing was written, since memory for it ran out.
-abbrev pub TellsOf : Rule → Text → Text → Option (List ℕ) → Option (List ℕ) → ℕ → Type 0
-TellsOf rule first second before after status =
-    ((outcome : Outcome) × rule first second outcome × TellsOutcome outcome before after status)
+abbrev pub WritesResultOf : Rule → Text → Text → Option (List ℕ) → Option (List ℕ) → ℕ → Type 0
+WritesResultOf rule first second before after status =
+    ((outcome : FileOutcome) × rule first second outcome × WritesOutcome outcome before after status)
     ⊎ ((status ≡ 6) × (after ≡ before))
 
 -- ---- what is read
@@ -82,7 +82,7 @@ pub record AnswersFiles (rule : Rule) (before after : Files) (status : ℕ) : Ty
   pub second : List ℕ
   pub first_read : IsReadWhole before.first after.first first
   pub second_read : IsReadWhole before.second after.second second
-  pub tells : TellsOf rule first second before.written after.written status
+  pub tells : WritesResultOf rule first second before.written after.written status
 
 -- A file wasn't read to its end, and nothing was written.
 pub record LeavesFiles (before after : Files) (status : ℕ) : Type 0 where
@@ -100,6 +100,6 @@ abbrev pub CompletesFiles : Rule → Files → Files → ℕ → Type 0
 CompletesFiles rule before after status =
     (first second : List ℕ) → before.first ≡ Some first → before.second ≡ Some second
     → length first < file_limit → length second < file_limit
-    → (outcome : Outcome) × rule first second outcome
+    → (outcome : FileOutcome) × rule first second outcome
     × (status ≡ outcome_status outcome)
-    × Grows before.written after.written (outcome_text outcome)
+    × Grows before.written after.written (file_text outcome)

@@ -2,7 +2,7 @@
 ghost use Rattle.std.specs.Prelude.{◌≡◌, Err, IsErrOf};
 ghost use Rattle.file_commands.specs.Devices.{FailsIf};
 ghost use Rattle.file_commands.specs.Applying.{Patches, apply_refusal};
-ghost use Rattle.file_commands.specs.TwoFiles.{DoesWithFiles, OneFailsIf, TellsOf, TellsOutcome, files};
+ghost use Rattle.file_commands.specs.TwoFiles.{DoesWithFiles, OneFailsIf, WritesOutcome, WritesResultOf, files};
 ghost use Rattle.request_loop.specs.Wires.{IsSent};
 ghost use Rattle.file_commands.specs.Status.{end_status};
 
@@ -45,7 +45,8 @@ fn tell<W: Sink>(
     delta: &[u8],
     out: &mut W,
 ) -> Result<(), Stop>
-    ensures tells { TellsOf (Patches sheet form) copy.now delta.now (W.written out.old) (W.written out.new)
+    ensures tells { WritesResultOf (Patches sheet form) copy.now delta.now (W.written out.old)
+        (W.written out.new)
         (end_status result) }
     ensures no_read_fault { ¬ (IsErrOf result Stop.ReadFault) }
     ensures writes { FailsIf (IsErrOf result Stop.WriteFault) W.written W.faults out.old out.new }
@@ -59,7 +60,7 @@ fn tell<W: Sink>(
 
 // Writes why there is no copy after the delta.
 fn refuse<W: Sink>(fault: ApplyFault, out: &mut W) -> Result<(), Stop>
-    ensures tells { TellsOutcome (Err (apply_refusal fault)) (W.written out.old) (W.written out.new)
+    ensures tells { WritesOutcome (Err (apply_refusal fault)) (W.written out.old) (W.written out.new)
         (end_status result) }
     ensures no_read_fault { ¬ (IsErrOf result Stop.ReadFault) }
     ensures writes { FailsIf (IsErrOf result Stop.WriteFault) W.written W.faults out.old out.new }

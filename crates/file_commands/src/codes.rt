@@ -4,7 +4,7 @@ ghost use Rattle.std.specs.Result.{result_err};
 ghost use Rattle.file_commands.specs.Devices.{FailsIf};
 ghost use Rattle.lei_code.specs.Digits.{digits};
 ghost use Rattle.lei_code.specs.Fault.{fault_of};
-ghost use Rattle.file_commands.specs.Codes.{check_line, digits_fault, digits_line, line_or, TellsLine};
+ghost use Rattle.file_commands.specs.Codes.{check_line, digits_fault, digits_line, line_or, WritesLine};
 ghost use Rattle.request_loop.specs.Wires.{IsSent};
 ghost use Rattle.file_commands.specs.Status.{end_status};
 
@@ -15,7 +15,7 @@ use lei_outside::{Sink, SinkFault};
 
 /// Writes whether the text is an LEI, or why it isn't.
 pub fn check<W: Sink>(text: &str, out: &mut W) -> Result<(), Stop>
-    ensures tells { TellsLine (fault_of text.now) (check_line text.now)
+    ensures tells { WritesLine (fault_of text.now) (check_line text.now)
         (W.written out.old) (W.written out.new) (end_status result) }
     ensures writes { FailsIf (IsErrOf result Stop.WriteFault) W.written W.faults out.old out.new }
 {
@@ -27,7 +27,7 @@ pub fn check<W: Sink>(text: &str, out: &mut W) -> Result<(), Stop>
 
 /// Writes the check digits that make the text an LEI, or why there are none.
 pub fn digits<W: Sink>(text: &str, out: &mut W) -> Result<(), Stop>
-    ensures tells { TellsLine (digits_fault text.now) (digits_line text.now)
+    ensures tells { WritesLine (digits_fault text.now) (digits_line text.now)
         (W.written out.old) (W.written out.new) (end_status result) }
     ensures writes { FailsIf (IsErrOf result Stop.WriteFault) W.written W.faults out.old out.new }
 {
@@ -49,7 +49,7 @@ fn digits_of(text: &[u8]) -> Result<[u8; 2], LeiFault>
 
 // Writes the refusal of a text.
 fn refuse<W: Sink>(fault: LeiFault, out: &mut W) -> Result<(), Stop>
-    ensures tells { TellsLine (Some fault) (line_or [] (Some fault))
+    ensures tells { WritesLine (Some fault) (line_or [] (Some fault))
         (W.written out.old) (W.written out.new) (end_status result) }
     ensures writes { FailsIf (IsErrOf result Stop.WriteFault) W.written W.faults out.old out.new }
 {

@@ -37,7 +37,7 @@ pub fn read_file<S: Source>(alloc: Global, input: &mut S) -> Result<Vec<u8>, Sto
         if file.len() + count == MAX_FILE {
             return Err(Stop::InputTooLong);
         }
-        put_behind(&mut file, &block[..count])?;
+        append(&mut file, &block[..count])?;
     }
 }
 
@@ -64,7 +64,7 @@ fn block(alloc: Global) -> Result<Vec<u8>, NoMemory>
     Ok(vec![in alloc; 0u8; BLOCK]?)
 }
 
-fn put_behind(file: &mut Vec<u8>, bytes: &[u8]) -> Result<(), NoMemory>
+fn append(file: &mut Vec<u8>, bytes: &[u8]) -> Result<(), NoMemory>
     ensures { OnOk result (file.new.items ≡ file.old.items ++ bytes.now) }
 {
     Ok(file.extend_from_slice(bytes)?)

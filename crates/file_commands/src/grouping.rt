@@ -4,8 +4,8 @@ ghost use Rattle.file_commands.specs.Devices.{FailsIf};
 ghost use Rattle.register_words.specs.declared.sheets.Sheet.{Sheet as DeclaredSheet};
 ghost use Rattle.copy_forms.specs.Files.{IsCopyRead};
 ghost use Rattle.group_reports.specs.Links.{GroupTable};
-ghost use Rattle.file_commands.specs.Grouping.{IsReport, IsReportOf, Reports, UnlessNoMemory, group_refusal};
-ghost use Rattle.file_commands.specs.TwoFiles.{DoesWithFiles, OneFailsIf, TellsOf, TellsOutcome, files};
+ghost use Rattle.file_commands.specs.Grouping.{IsReport, IsReportOf, Reports, UnlessGroupLacksMemory, group_refusal};
+ghost use Rattle.file_commands.specs.TwoFiles.{DoesWithFiles, OneFailsIf, WritesOutcome, WritesResultOf, files};
 ghost use Rattle.request_loop.specs.Wires.{IsSent};
 ghost use Rattle.file_commands.specs.Status.{end_status};
 
@@ -65,7 +65,8 @@ fn tell<W: Sink>(
     rr: &[u8],
     out: &mut W,
 ) -> Result<(), Stop>
-    ensures tells { TellsOf (Reports who.now form) lei.now rr.now (W.written out.old) (W.written out.new)
+    ensures tells { WritesResultOf (Reports who.now form) lei.now rr.now (W.written out.old)
+        (W.written out.new)
         (end_status result) }
     ensures no_read_fault { ¬ (IsErrOf result Stop.ReadFault) }
     ensures writes { FailsIf (IsErrOf result Stop.WriteFault) W.written W.faults out.old out.new }
@@ -85,7 +86,7 @@ fn report(
     lei: &[u8],
     rr: &[u8],
 ) -> Result<Bytes, GroupRefusal>
-    ensures { UnlessNoMemory result (IsReport who.now form lei.now rr.now result) }
+    ensures { UnlessGroupLacksMemory result (IsReport who.now form lei.now rr.now result) }
 {
     let lei = match read_copy(alloc, lei, Sheet::Lei, form) {
         Ok(copy) => copy,
@@ -123,7 +124,7 @@ fn report_by(groups: &Groups, who: &str) -> Result<Bytes, GroupRefusal>
 
 // Writes why there is no report.
 fn refuse<W: Sink>(refusal: GroupRefusal, out: &mut W) -> Result<(), Stop>
-    ensures tells { TellsOutcome (Err (group_refusal refusal)) (W.written out.old) (W.written out.new)
+    ensures tells { WritesOutcome (Err (group_refusal refusal)) (W.written out.old) (W.written out.new)
         (end_status result) }
     ensures no_read_fault { ¬ (IsErrOf result Stop.ReadFault) }
     ensures writes { FailsIf (IsErrOf result Stop.WriteFault) W.written W.faults out.old out.new }

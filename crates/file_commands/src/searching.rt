@@ -7,7 +7,7 @@ ghost use Rattle.search_queries.specs.Searches.{SearchState};
 ghost use Rattle.query_reading.specs.QueryFrames.{HoldsQuery};
 ghost use Rattle.file_commands.specs.Searching.{AnswersCopy, AnswersFrom, RefusesCopy, Searches, copy_refusal};
 ghost use Rattle.file_commands.specs.Sides.{sides};
-ghost use Rattle.file_commands.specs.TwoFiles.{OneFailsIf, TellsOutcome, files};
+ghost use Rattle.file_commands.specs.TwoFiles.{OneFailsIf, WritesOutcome, files};
 ghost use Rattle.file_commands.specs.Status.{end_status};
 
 use crate::files::read_file;
@@ -86,7 +86,7 @@ fn search_in<L: Ledger, R, S: Source, W: Sink>(
 
 // Writes that a file isn't a copy.
 fn refuse_copy<S: Source, W: Sink>(wire: &mut Duplex<'_, S, W>) -> Result<(), Stop>
-    ensures tells { TellsOutcome (Err copy_refusal) (W.written wire.old.out.now) (W.written wire.new.out.now)
+    ensures tells { WritesOutcome (Err copy_refusal) (W.written wire.old.out.now) (W.written wire.new.out.now)
         (end_status result) }
     ensures unread { S.left wire.new.input.now ≡ S.left wire.old.input.now }
     ensures no_read { ¬ (IsErrOf result Stop.ReadFault) }

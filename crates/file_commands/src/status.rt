@@ -1,6 +1,6 @@
 //! The statuses that the program ends with.
 ghost use Rattle.std.specs.Prelude.{◌≡◌};
-ghost use Rattle.file_commands.specs.Status.{ended_as, status_text, stop_status};
+ghost use Rattle.file_commands.specs.Status.{ended_as, exit_text, stop_status};
 
 use lei_outside::{Failed, NoMemory, SinkFault};
 use line_reading::NoEnd;
@@ -83,7 +83,7 @@ pub fn ended_as(ended: Ended<NoEnd>) -> Result<(), Stop>
 
 /// The word of a status, for a person.
 pub fn status_text(status: u8) -> &'static str
-    ensures { result.now ≡ status_text status }
+    ensures { result.now ≡ exit_text status }
 {
     match ExitStatus::of(status) {
         Some(status) => status.name(),

@@ -2,7 +2,7 @@
 ghost use Rattle.std.specs.Prelude.{◌≡◌, ◌∷◌, ◌++◌, [], Ok, decimal, flat_map, IsErrOf};
 ghost use Rattle.file_commands.specs.Devices.{FailsIf};
 ghost use Rattle.request_loop.specs.Wires.{IsSent};
-ghost use Rattle.file_commands.specs.TwoFiles.{TellsOutcome};
+ghost use Rattle.file_commands.specs.TwoFiles.{WritesOutcome};
 ghost use Rattle.file_commands.specs.Status.{end_status};
 
 use crate::status::Stop;
@@ -10,7 +10,7 @@ use lei_outside::{Sink, SinkFault, write_all};
 
 /// Writes a text.
 pub fn tell_text<W: Sink>(text: &[u8], out: &mut W) -> Result<(), Stop>
-    ensures tells { TellsOutcome (Ok text.now) (W.written out.old) (W.written out.new) (end_status result) }
+    ensures tells { WritesOutcome (Ok text.now) (W.written out.old) (W.written out.new) (end_status result) }
     ensures no_read_fault { ¬ (IsErrOf result Stop.ReadFault) }
     ensures writes { FailsIf (IsErrOf result Stop.WriteFault) W.written W.faults out.old out.new }
 {

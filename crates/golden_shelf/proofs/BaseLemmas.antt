@@ -8,7 +8,7 @@ use Rattle.copy_forms.specs.Trails.{Trail}
 use Rattle.register_words.specs.declared.base.Base.{Base}
 use Rattle.golden_shelf.specs.declared.issue.Issue.{Issue}
 use Rattle.golden_shelf.specs.declared.fault.ShelfFault.{ShelfFault}
-use Rattle.golden_shelf.specs.Bases.{aged, base_in, counted, last_moment, last_until, moments_in, moments_of, named, numbered}
+use Rattle.golden_shelf.specs.Bases.{base_in, by_age, count_after_first, last_until, latest_moment, moments_in, number_for_base, publication_numbered, trail_moments}
 use Rattle.golden_shelf.specs.Shelves.{AreIssuesOf}
 
 -- the last moment within a bound, after one more moment was appended
@@ -16,32 +16,32 @@ pub until_push : (bound : ℤ) (moments : List ℤ) (m : ℤ)
     → last_until bound (moments ++ m ∷ []) ≡ cond (int_le m bound) (Some (length moments + 1)) (last_until bound moments)
 until_push bound [] m = by (int_le m bound)
   where
-    by : (b : Bool) → counted None b ≡ cond b (Some 1) None
+    by : (b : Bool) → count_after_first None b ≡ cond b (Some 1) None
     by true = refl
     by false = refl
 until_push bound (x ∷ moments) m =
-    ap (λ o. counted o (int_le x bound)) (until_push bound moments m) ∙ by (int_le m bound)
+    ap (λ o. count_after_first o (int_le x bound)) (until_push bound moments m) ∙ by (int_le m bound)
   where
-    by : (b : Bool) → counted (cond b (Some (length moments + 1)) (last_until bound moments)) (int_le x bound)
-        ≡ cond b (Some (suc (length moments) + 1)) (counted (last_until bound moments) (int_le x bound))
+    by : (b : Bool) → count_after_first (cond b (Some (length moments + 1)) (last_until bound moments)) (int_le x bound)
+        ≡ cond b (Some (suc (length moments) + 1)) (count_after_first (last_until bound moments) (int_le x bound))
     by true = ap Some (omega arith)
     by false = refl
 
 -- the moment of the last publication is the last moment
 pub last_is : (issues : List Issue) (latest : Issue) (base : Base) → Some latest ≡ slice_get issues (length issues - 1)
-    → base_in (moments_in issues) base ≡ named (moments_in issues) latest.moment base
+    → base_in (moments_in issues) base ≡ number_for_base (moments_in issues) latest.moment base
 last_is [] latest base at = absurd (false≢true (sym (ap is_some at)))
-last_is (first ∷ later) latest base at = ap (λ m. named (moments_in (first ∷ later)) m base) (by first later at)
+last_is (first ∷ later) latest base at = ap (λ m. number_for_base (moments_in (first ∷ later)) m base) (by first later at)
   where
     by : (first : Issue) (later : List Issue) → Some latest ≡ slice_get (first ∷ later) (length (first ∷ later) - 1)
-        → last_moment first.moment (moments_in later) ≡ latest.moment
+        → latest_moment first.moment (moments_in later) ≡ latest.moment
     by first [] at = ap (λ (o : Option Issue). (unwrap_or o first).moment) (sym at)
     by first (next ∷ later) at =
         let e : length (first ∷ next ∷ later) - 1 ≡ suc (length (next ∷ later) - 1) = omega arith in
         by next later (at ∙ ap (slice_get (first ∷ next ∷ later)) e)
 
 -- what is kept for a trail has the trail's moments
-pub same_moments : (issues : List Issue) (trail : Trail) → AreIssuesOf issues trail → moments_in issues ≡ moments_of trail
+pub same_moments : (issues : List Issue) (trail : Trail) → AreIssuesOf issues trail → moments_in issues ≡ trail_moments trail
 same_moments [] [] are = refl
 same_moments [] (p ∷ trail) are = absurd are
 same_moments (i ∷ issues) [] are = absurd are
@@ -71,7 +71,7 @@ until_within : (bound : ℤ) (moments : List ℤ) (n : ℕ) → last_until bound
 until_within bound [] n is = absurd (false≢true (ap is_some is))
 until_within bound (m ∷ moments) n is = by (last_until bound moments) (until_within bound moments) (int_le m bound) is
   where
-    by : (o : Option ℕ) → ((k : ℕ) → o ≡ Some k → k ≤ length moments) → (b : Bool) → counted o b ≡ Some n → n ≤ suc (length moments)
+    by : (o : Option ℕ) → ((k : ℕ) → o ≡ Some k → k ≤ length moments) → (b : Bool) → count_after_first o b ≡ Some n → n ≤ suc (length moments)
     by (Some k) later b is = let e : k + 1 ≡ n = ap (λ o. unwrap_or o n) is in let w = later k refl in omega (arith, e, w)
     by None later true is = let e : 1 ≡ n = ap (λ o. unwrap_or o n) is in omega (arith, e)
     by None later false is = absurd (false≢true (ap is_some is))
@@ -92,7 +92,7 @@ both : (a b : Bool) → (a && b) ≡ true → b ≡ true
 both true b e = e
 both false b e = absurd (false≢true e)
 
-numbered_within : (count number p : ℕ) → numbered count number ≡ Ok p → p ≤ count
+numbered_within : (count number p : ℕ) → publication_numbered count number ≡ Ok p → p ≤ count
 numbered_within count number p is = by (nat_le 1 number && nat_le number count) refl is
   where
     by : (b : Bool) → (nat_le 1 number && nat_le number count) ≡ b → cond b (Ok number) (Err ShelfFault.PublicationUnknown) ≡ Ok p → p ≤ count
@@ -100,10 +100,10 @@ numbered_within count number p is = by (nat_le 1 number && nat_le number count) 
         subst (λ n. n ≤ count) (ap (λ r. ok_of r number) is) (leb-true number count (both (nat_le 1 number) (nat_le number count) fits))
     by false fits is = absurd (false≢true (sym (ap fails is)))
 
-aged_within : (bound : ℤ) (moments : List ℤ) (p : ℕ) → aged (last_until bound moments) ≡ Ok p → p ≤ length moments
+aged_within : (bound : ℤ) (moments : List ℤ) (p : ℕ) → by_age (last_until bound moments) ≡ Ok p → p ≤ length moments
 aged_within bound moments p is = by (last_until bound moments) (until_within bound moments) is
   where
-    by : (o : Option ℕ) → ((k : ℕ) → o ≡ Some k → k ≤ length moments) → aged o ≡ Ok p → p ≤ length moments
+    by : (o : Option ℕ) → ((k : ℕ) → o ≡ Some k → k ≤ length moments) → by_age o ≡ Ok p → p ≤ length moments
     by (Some k) within is = within p (ap (λ r. Some (ok_of r k)) is)
     by None within is = absurd (false≢true (sym (ap fails is)))
 
@@ -128,25 +128,25 @@ found_some issues now base r p same is ok none =
 
 -- if a base names no publication, the reason is the same for the kept moments and the trail
 pub refused_so : {B : Type 0} (issues now : List Issue) (trail : Trail) (base : Base) (r : Result ℕ ShelfFault) (fault other : ShelfFault) → issues ≡ now
-    → AreIssuesOf now trail → r ≡ base_in (moments_in issues) base → r ≡ Err fault → base_in (moments_of trail) base ≡ Err other
+    → AreIssuesOf now trail → r ≡ base_in (moments_in issues) base → r ≡ Err fault → base_in (trail_moments trail) base ≡ Err other
     → ◌≡◌ {A = Result B ShelfFault} (Err fault) (Err other)
 refused_so issues now trail base r fault other same are is err named_so =
     ap Err (ap (λ r. fault_in r fault) (sym err ∙ is ∙ ap (λ l. base_in (moments_in l) base) same ∙ ap (λ l. base_in l base) (same_moments now trail are) ∙ named_so))
 
 -- a base that names a publication isn't refused
 pub not_found : (issues now : List Issue) (trail : Trail) (base : Base) (r : Result ℕ ShelfFault) (fault : ShelfFault) (p : ℕ) → issues ≡ now
-    → AreIssuesOf now trail → r ≡ base_in (moments_in issues) base → r ≡ Err fault → base_in (moments_of trail) base ≡ Ok p → ⊥
+    → AreIssuesOf now trail → r ≡ base_in (moments_in issues) base → r ≡ Err fault → base_in (trail_moments trail) base ≡ Ok p → ⊥
 not_found issues now trail base r fault p same are is err found =
     false≢true (sym (ap fails found) ∙ ap fails (sym (sym err ∙ is ∙ ap (λ l. base_in (moments_in l) base) same ∙ ap (λ l. base_in l base) (same_moments now trail are))))
 
 pub not_refused : (issues now : List Issue) (trail : Trail) (base : Base) (r : Result ℕ ShelfFault) (fault : ShelfFault) (p : ℕ) → issues ≡ now
-    → AreIssuesOf now trail → r ≡ base_in (moments_in issues) base → r ≡ Ok p → base_in (moments_of trail) base ≡ Err fault → ⊥
+    → AreIssuesOf now trail → r ≡ base_in (moments_in issues) base → r ≡ Ok p → base_in (trail_moments trail) base ≡ Err fault → ⊥
 not_refused issues now trail base r fault p same are is ok refused =
     false≢true (ap fails (sym ok ∙ is ∙ ap (λ l. base_in (moments_in l) base) same ∙ ap (λ l. base_in l base) (same_moments now trail are) ∙ refused))
 
 -- the number that is found is the one that the base names
 pub found_so : (issues now : List Issue) (trail : Trail) (base : Base) (r : Result ℕ ShelfFault) (p q : ℕ) → issues ≡ now
-    → AreIssuesOf now trail → r ≡ base_in (moments_in issues) base → r ≡ Ok p → base_in (moments_of trail) base ≡ Ok q → p ≡ q
+    → AreIssuesOf now trail → r ≡ base_in (moments_in issues) base → r ≡ Ok p → base_in (trail_moments trail) base ≡ Ok q → p ≡ q
 found_so issues now trail base r p q same are is ok found =
     ap (λ r. ok_of r p) (sym ok ∙ is ∙ ap (λ l. base_in (moments_in l) base) same ∙ ap (λ l. base_in l base) (same_moments now trail are) ∙ found)
 

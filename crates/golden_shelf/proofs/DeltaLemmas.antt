@@ -20,24 +20,24 @@ use Rattle.register_words.specs.declared.sheets.Sheet.{Sheet}
 use Rattle.copy_csv.specs.Csv.{Rendered, rendered_in}
 use Rattle.copy_csv.specs.declared.rows.TextChange.{TextChange}
 use Rattle.golden_shelf.specs.declared.sides.Sides.{Sides}
-use Rattle.golden_shelf.specs.Parts.{kept_of, side_of}
+use Rattle.golden_shelf.specs.Parts.{kept_parts, side_of}
 use Rattle.golden_shelf.specs.Sides.{SideState}
 use Rattle.golden_shelf.proofs.Publishing.{kept_lines, latest_sound}
-use Rattle.copy_csv.specs.Rows.{AreRows, IsChangeOf, IsRowOf}
-use Rattle.copy_csv.specs.Sheets.{SheetRow, key_len, row_of, width}
+use Rattle.copy_csv.specs.Rows.{AreRows, IsChangeOf, IsRowOfSheet}
+use Rattle.copy_csv.specs.Sheets.{SheetRow, key_len, row_of_texts, width}
 use Rattle.lei_code.specs.Texts.{Text}
 use Rattle.lei_records.specs.declared.view.RowKey.{RowKey}
-use Rattle.golden_shelf.specs.Keys.{is_of, key_texts}
+use Rattle.golden_shelf.specs.Keys.{is_key_of, key_texts}
 use Rattle.copy_csv.proofs.RowLemmas.{key_total}
-use Rattle.copy_forms.specs.Files.{delta, rendered, rendered_change}
+use Rattle.copy_forms.specs.Files.{delta, rendered_change, row_renderings}
 use Rattle.register_words.specs.declared.sheets.Form.{Form}
-use Rattle.copy_forms.specs.Trails.{FollowOn, IsKeyOf, IsSound, Publication, Trail, change_of, change_to, changes_between, delta_between, dropped_row, in_order, is_among, is_wide_in, nothing_published, row_under, touched_in}
+use Rattle.copy_forms.specs.Trails.{FollowOn, IsKeyOf, IsSoundTrail, Publication, Trail, change_at_key, change_to, changes_between, delta_between, dropped_row, is_key_among, is_wide_in, keys_in_order, nothing_published, row_under, touched_in}
 use Rattle.copy_forms.proofs.TrailLemmas.{are_changes}
 use Rattle.golden_shelf.specs.declared.issue.Issue.{Issue}
 use Rattle.golden_shelf.specs.declared.order.TextKey.{TextKey}
-use Rattle.golden_shelf.specs.Deltas.{changed_in, shown, shown_in, texts_in}
-use Rattle.golden_shelf.specs.Lines.{Line, line_of}
-use Rattle.golden_shelf.specs.Shelves.{AreIssuesOf, Keeps, Kept, latest, lines_of}
+use Rattle.golden_shelf.specs.Deltas.{change_texts, changed_in, shown_in, texts_in}
+use Rattle.golden_shelf.specs.Lines.{KeyedLine, keyed_line}
+use Rattle.golden_shelf.specs.Shelves.{AreIssuesOf, KeepsTrail, Kept, latest, lines_of}
 use Rattle.golden_shelf.proofs.Keeping.{find_lines, joined, under_keys}
 use Rattle.golden_shelf.proofs.SideLemmas.{tied}
 use Rattle.golden_shelf.proofs.Woven.{key_same}
@@ -53,15 +53,15 @@ Same x y = eq_by_cmp key_cmp (texts_in x) (texts_in y)
 order_total : IsTotalOrder Order
 order_total = on_total texts_in key_total
 
-among_map : (k : KeyTexts) (xs : List TextKey) → is_among k (map texts_in xs) ≡ list_any (λ x. eq_by_cmp key_cmp k (texts_in x)) xs
+among_map : (k : KeyTexts) (xs : List TextKey) → is_key_among k (map texts_in xs) ≡ list_any (λ x. eq_by_cmp key_cmp k (texts_in x)) xs
 among_map k [] = refl
 among_map k (x ∷ xs) = ap (λ b. eq_by_cmp key_cmp k (texts_in x) || b) (among_map k xs)
 
-among_moved : (k : KeyTexts) (xs ys : List TextKey) → IsPermutation xs ys → is_among k (map texts_in ys) ≡ is_among k (map texts_in xs)
+among_moved : (k : KeyTexts) (xs ys : List TextKey) → IsPermutation xs ys → is_key_among k (map texts_in ys) ≡ is_key_among k (map texts_in xs)
 among_moved k xs ys moved =
     among_map k ys ∙ sym (list_any-IsPermutation (λ x. eq_by_cmp key_cmp k (texts_in x)) xs ys moved) ∙ sym (among_map k xs)
 
-among_once : (k : KeyTexts) (x : TextKey) (xs : List TextKey) → is_among k (map texts_in (dedup_from Same x xs)) ≡ is_among k (map texts_in (x ∷ xs))
+among_once : (k : KeyTexts) (x : TextKey) (xs : List TextKey) → is_key_among k (map texts_in (dedup_from Same x xs)) ≡ is_key_among k (map texts_in (x ∷ xs))
 among_once k x [] = refl
 among_once k x (y ∷ xs) = by (among_once k x xs) (among_once k y xs) (Same y x) refl
   where
@@ -69,15 +69,15 @@ among_once k x (y ∷ xs) = by (among_once k x xs) (among_once k y xs) (Same y x
     twice true b = refl
     twice false b = refl
 
-    by : is_among k (map texts_in (dedup_from Same x xs)) ≡ is_among k (map texts_in (x ∷ xs))
-        → is_among k (map texts_in (dedup_from Same y xs)) ≡ is_among k (map texts_in (y ∷ xs))
+    by : is_key_among k (map texts_in (dedup_from Same x xs)) ≡ is_key_among k (map texts_in (x ∷ xs))
+        → is_key_among k (map texts_in (dedup_from Same y xs)) ≡ is_key_among k (map texts_in (y ∷ xs))
         → (b : Bool) → Same y x ≡ b
-        → is_among k (map texts_in (cond b (dedup_from Same x xs) (x ∷ dedup_from Same y xs))) ≡ is_among k (map texts_in (x ∷ y ∷ xs))
-    by first second true e = first ∙ twice (eq_by_cmp key_cmp k (texts_in x)) (is_among k (map texts_in xs))
-        ∙ ap (λ j. eq_by_cmp key_cmp k (texts_in x) || (eq_by_cmp key_cmp k j || is_among k (map texts_in xs))) (sym (tied (texts_in y) (texts_in x) e))
+        → is_key_among k (map texts_in (cond b (dedup_from Same x xs) (x ∷ dedup_from Same y xs))) ≡ is_key_among k (map texts_in (x ∷ y ∷ xs))
+    by first second true e = first ∙ twice (eq_by_cmp key_cmp k (texts_in x)) (is_key_among k (map texts_in xs))
+        ∙ ap (λ j. eq_by_cmp key_cmp k (texts_in x) || (eq_by_cmp key_cmp k j || is_key_among k (map texts_in xs))) (sym (tied (texts_in y) (texts_in x) e))
     by first second false e = ap (λ b. eq_by_cmp key_cmp k (texts_in x) || b) second
 
-among_dedup : (k : KeyTexts) (xs : List TextKey) → is_among k (map texts_in (dedup Same xs)) ≡ is_among k (map texts_in xs)
+among_dedup : (k : KeyTexts) (xs : List TextKey) → is_key_among k (map texts_in (dedup Same xs)) ≡ is_key_among k (map texts_in xs)
 among_dedup k [] = refl
 among_dedup k (x ∷ xs) = among_once k x xs
 
@@ -101,12 +101,12 @@ firsts [] = refl
 firsts (k ∷ ks) = ap (λ l. k ∷ l) (firsts ks)
 
 -- a key paired with itself is found if and only if it is among the keys
-find_twins : (k : KeyTexts) (ks : List KeyTexts) → find key_cmp k (twins ks) ≡ cond (is_among k ks) (Some k) None
+find_twins : (k : KeyTexts) (ks : List KeyTexts) → find key_cmp k (twins ks) ≡ cond (is_key_among k ks) (Some k) None
 find_twins k [] = refl
 find_twins k (j ∷ ks) = by (eq_by_cmp key_cmp k j) refl (find_twins k ks)
   where
-    by : (b : Bool) → eq_by_cmp key_cmp k j ≡ b → find key_cmp k (twins ks) ≡ cond (is_among k ks) (Some k) None
-        → cond b (Some j) (find key_cmp k (twins ks)) ≡ cond (b || is_among k ks) (Some k) None
+    by : (b : Bool) → eq_by_cmp key_cmp k j ≡ b → find key_cmp k (twins ks) ≡ cond (is_key_among k ks) (Some k) None
+        → cond b (Some j) (find key_cmp k (twins ks)) ≡ cond (b || is_key_among k ks) (Some k) None
     by true e later = ap Some (sym (tied k j e))
     by false e later = later
 
@@ -115,8 +115,8 @@ tells true t = refl
 tells false t = absurd t
 
 -- rising keys that are the touched keys are these in order
-in_order_is : (touched ks : List KeyTexts) → is_sorted key_cmp (twins ks) ≡ true → ((k : KeyTexts) → is_among k ks ≡ is_among k touched)
-    → ks ≡ in_order touched
+in_order_is : (touched ks : List KeyTexts) → is_sorted key_cmp (twins ks) ≡ true → ((k : KeyTexts) → is_key_among k ks ≡ is_key_among k touched)
+    → ks ≡ keys_in_order touched
 in_order_is touched ks sorted same =
     let es : List (KeyTexts × KeyTexts) = entries (from_entries {R = key_cmp} (twins touched)) in
     let e : twins ks ≡ es =
@@ -128,13 +128,13 @@ in_order_is touched ks sorted same =
 
 -- keys that were sorted, each once, are the touched keys in order
 pub ordered : (touched : List KeyTexts) (xs ys zs : List TextKey) → map texts_in xs ≡ touched → IsPermutation xs ys → IsSorted Order ys
-    → IsFiltered (DiffersFromLast Same) [] ys zs → map texts_in zs ≡ in_order touched
+    → IsFiltered (DiffersFromLast Same) [] ys zs → map texts_in zs ≡ keys_in_order touched
 ordered touched xs ys zs are moved sorted once =
     let is : zs ≡ dedup Same ys = dedup_is Same ys zs once in
     ap (map texts_in) is
     ∙ in_order_is touched (map texts_in (dedup Same ys))
     (sorted_twins (dedup Same ys) (IsStrictlySortedBy-dedup order_total (λ x y. refl) ys sorted))
-    (λ k. among_dedup k ys ∙ among_moved k xs ys moved ∙ ap (is_among k) are)
+    (λ k. among_dedup k ys ∙ among_moved k xs ys moved ∙ ap (is_key_among k) are)
 
 pub ordered_own : (P : TextKey → Type 0) (xs ys zs : List TextKey) → IsPermutation xs ys → IsFiltered (DiffersFromLast Same) [] ys zs
     → All P xs → All P zs
@@ -177,45 +177,45 @@ keys_behind before (next ∷ later) (suc n) on sheet = keys_behind next later n 
 
 -- what a delta has for a key, by its line and by its row
 shown_change : (sheet : Sheet) (rows : List SheetRow) (k : KeyTexts)
-    → shown_in sheet (map line_of rows) k ≡ rendered_change (change_of sheet rows k)
+    → shown_in sheet (map keyed_line rows) k ≡ rendered_change (change_at_key sheet rows k)
 shown_change sheet rows k =
-    ap (shown sheet k) (find_lines rows k ∙ ap (option_map rendered) (sym (get-from_entries key_total (under_keys rows) k)))
+    ap (change_texts sheet k) (find_lines rows k ∙ ap (option_map row_renderings) (sym (get-from_entries key_total (under_keys rows) k)))
     ∙ by (row_under rows k)
   where
-    by : (r : Option SheetRow) → shown sheet k (option_map rendered r) ≡ rendered_change (change_to sheet k r)
+    by : (r : Option SheetRow) → change_texts sheet k (option_map row_renderings r) ≡ rendered_change (change_to sheet k r)
     by None = refl
     by (Some row) = refl
 
 shown_changes : (sheet : Sheet) (rows : List SheetRow) (ks : List KeyTexts)
-    → map (shown_in sheet (map line_of rows)) ks ≡ map rendered_change (map (change_of sheet rows) ks)
+    → map (shown_in sheet (map keyed_line rows)) ks ≡ map rendered_change (map (change_at_key sheet rows) ks)
 shown_changes sheet rows [] = refl
 shown_changes sheet rows (k ∷ ks) =
-    ap (λ r. r ∷ map (shown_in sheet (map line_of rows)) ks) (shown_change sheet rows k)
-    ∙ ap (λ l. rendered_change (change_of sheet rows k) ∷ l) (shown_changes sheet rows ks)
+    ap (λ r. r ∷ map (shown_in sheet (map keyed_line rows)) ks) (shown_change sheet rows k)
+    ∙ ap (λ l. rendered_change (change_at_key sheet rows k) ∷ l) (shown_changes sheet rows ks)
 
 map_texts : {X : Type 0} (g : KeyTexts → X) (keys : List TextKey) → map (λ key. g (texts_in key)) keys ≡ map g (map texts_in keys)
 map_texts g [] = refl
 map_texts g (x ∷ keys) = ap (λ l. g (texts_in x) ∷ l) (map_texts g keys)
 
 -- what is joined for the touched keys is what a delta has for them in order
-pub joined_changes : (sheet : Sheet) (lines : List Line) (keys : List TextKey) (issues : List Issue) (found : List Rendered)
-    → map texts_in keys ≡ in_order (changed_in sheet issues) → found ≡ map (λ key. shown_in sheet lines (texts_in key)) keys
-    → found ≡ map (shown_in sheet lines) (in_order (changed_in sheet issues))
+pub joined_changes : (sheet : Sheet) (lines : List KeyedLine) (keys : List TextKey) (issues : List Issue) (found : List Rendered)
+    → map texts_in keys ≡ keys_in_order (changed_in sheet issues) → found ≡ map (λ key. shown_in sheet lines (texts_in key)) keys
+    → found ≡ map (shown_in sheet lines) (keys_in_order (changed_in sheet issues))
 joined_changes sheet lines keys issues found are is = is ∙ map_texts (shown_in sheet lines) keys ∙ ap (map (shown_in sheet lines)) are
 
-pub changes_are : (sheet : Sheet) (lines : List Line) (issues : List Issue) (trail : Trail) (last : Publication) (n : ℕ)
-    → AreIssuesOf issues trail → lines ≡ map line_of (last.rows sheet)
-    → map (shown_in sheet lines) (in_order (changed_in sheet (drop n issues))) ≡ map rendered_change (changes_between trail n (length trail) last sheet)
+pub changes_are : (sheet : Sheet) (lines : List KeyedLine) (issues : List Issue) (trail : Trail) (last : Publication) (n : ℕ)
+    → AreIssuesOf issues trail → lines ≡ map keyed_line (last.rows sheet)
+    → map (shown_in sheet lines) (keys_in_order (changed_in sheet (drop n issues))) ≡ map rendered_change (changes_between trail n (length trail) last sheet)
 changes_are sheet lines issues trail last n are is =
-    ap (λ ks. map (shown_in sheet lines) (in_order ks)) (changed_touched sheet (drop n issues) (drop n trail) (drop_issues issues trail n are))
-    ∙ ap (λ l. map (shown_in sheet l) (in_order (touched_in sheet (drop n trail)))) is
-    ∙ shown_changes sheet (last.rows sheet) (in_order (touched_in sheet (drop n trail)))
-    ∙ ap (λ t. map rendered_change (map (change_of sheet (last.rows sheet)) (in_order (touched_in sheet t)))) (sym (take_rest trail n))
+    ap (λ ks. map (shown_in sheet lines) (keys_in_order ks)) (changed_touched sheet (drop n issues) (drop n trail) (drop_issues issues trail n are))
+    ∙ ap (λ l. map (shown_in sheet l) (keys_in_order (touched_in sheet (drop n trail)))) is
+    ∙ shown_changes sheet (last.rows sheet) (keys_in_order (touched_in sheet (drop n trail)))
+    ∙ ap (λ t. map rendered_change (map (change_at_key sheet (last.rows sheet)) (keys_in_order (touched_in sheet t)))) (sym (take_rest trail n))
 
-pub changes_good : (sheet : Sheet) (trail : Trail) (last : Publication) (n : ℕ) → IsSound trail → AreRows sheet (last.rows sheet)
+pub changes_good : (sheet : Sheet) (trail : Trail) (last : Publication) (n : ℕ) → IsSoundTrail trail → AreRows sheet (last.rows sheet)
     → All (IsChangeOf sheet) (changes_between trail n (length trail) last sheet)
 changes_good sheet trail last n sound rows =
-    subst (λ t. All (IsChangeOf sheet) (map (change_of sheet (last.rows sheet)) (in_order (touched_in sheet t)))) (sym (take_rest trail n))
+    subst (λ t. All (IsChangeOf sheet) (map (change_at_key sheet (last.rows sheet)) (keys_in_order (touched_in sheet t)))) (sym (take_rest trail n))
     (are_changes sheet (last.rows sheet) (touched_in sheet (drop n trail)) rows.each (keys_behind nothing_published trail n sound sheet)).each
 
 -- ---- keys that are collected, one after the other
@@ -225,27 +225,27 @@ rest_of xs i x lt is = drop_more xs i x lt ∙ ap (λ y. y ∷ drop (i + 1) xs) 
 
 -- one more key is appended, if it is of the sheet
 pub key_put : (sheet : Sheet) (out new : List TextKey) (all : List KeyTexts) (keys : List RowKey) (i : ℕ) (x : RowKey) → i < length keys
-    → x ≡ slice_index_or keys i x → map texts_in new ≡ map texts_in out ++ map key_texts (filter (is_of sheet) (x ∷ []))
-    → map texts_in out ++ map key_texts (filter (is_of sheet) (drop i keys)) ≡ all
-    → map texts_in new ++ map key_texts (filter (is_of sheet) (drop (i + 1) keys)) ≡ all
+    → x ≡ slice_index_or keys i x → map texts_in new ≡ map texts_in out ++ map key_texts (filter (is_key_of sheet) (x ∷ []))
+    → map texts_in out ++ map key_texts (filter (is_key_of sheet) (drop i keys)) ≡ all
+    → map texts_in new ++ map key_texts (filter (is_key_of sheet) (drop (i + 1) keys)) ≡ all
 key_put sheet out new all keys i x lt is put before =
-    ap (λ l. l ++ map key_texts (filter (is_of sheet) (drop (i + 1) keys))) put
-    ∙ append_assoc (map texts_in out) (map key_texts (filter (is_of sheet) (x ∷ []))) (map key_texts (filter (is_of sheet) (drop (i + 1) keys)))
-    ∙ ap (λ l. map texts_in out ++ l) (by (is_of sheet x) (drop (i + 1) keys))
-    ∙ ap (λ l. map texts_in out ++ map key_texts (filter (is_of sheet) l)) (sym (rest_of keys i x lt is)) ∙ before
+    ap (λ l. l ++ map key_texts (filter (is_key_of sheet) (drop (i + 1) keys))) put
+    ∙ append_assoc (map texts_in out) (map key_texts (filter (is_key_of sheet) (x ∷ []))) (map key_texts (filter (is_key_of sheet) (drop (i + 1) keys)))
+    ∙ ap (λ l. map texts_in out ++ l) (by (is_key_of sheet x) (drop (i + 1) keys))
+    ∙ ap (λ l. map texts_in out ++ map key_texts (filter (is_key_of sheet) l)) (sym (rest_of keys i x lt is)) ∙ before
   where
-    by : (b : Bool) (rest : List RowKey) → map key_texts (cond b (x ∷ []) []) ++ map key_texts (filter (is_of sheet) rest)
-        ≡ map key_texts (cond b (x ∷ filter (is_of sheet) rest) (filter (is_of sheet) rest))
+    by : (b : Bool) (rest : List RowKey) → map key_texts (cond b (x ∷ []) []) ++ map key_texts (filter (is_key_of sheet) rest)
+        ≡ map key_texts (cond b (x ∷ filter (is_key_of sheet) rest) (filter (is_key_of sheet) rest))
     by true rest = refl
     by false rest = refl
 
 -- the keys of one more publication are appended
 pub issue_put : (sheet : Sheet) (out new : List TextKey) (all : List KeyTexts) (issues : List Issue) (i : ℕ) (x : Issue) → i < length issues
-    → x ≡ slice_index_or issues i x → map texts_in new ≡ map texts_in out ++ map key_texts (filter (is_of sheet) x.keys)
+    → x ≡ slice_index_or issues i x → map texts_in new ≡ map texts_in out ++ map key_texts (filter (is_key_of sheet) x.keys)
     → map texts_in out ++ changed_in sheet (drop i issues) ≡ all → map texts_in new ++ changed_in sheet (drop (i + 1) issues) ≡ all
 issue_put sheet out new all issues i x lt is put before =
     ap (λ l. l ++ changed_in sheet (drop (i + 1) issues)) put
-    ∙ append_assoc (map texts_in out) (map key_texts (filter (is_of sheet) x.keys)) (changed_in sheet (drop (i + 1) issues))
+    ∙ append_assoc (map texts_in out) (map key_texts (filter (is_key_of sheet) x.keys)) (changed_in sheet (drop (i + 1) issues))
     ∙ ap (λ l. map texts_in out ++ changed_in sheet l) (sym (rest_of issues i x lt is)) ∙ before
 
 pub none_left : {X : Type 0} (xs : List X) (i : ℕ) → length xs ≤ i → drop i xs ≡ []
@@ -253,7 +253,7 @@ none_left xs i end = drop_all i xs end
 
 -- ---- the row of a dropped key
 
-pub key_wide : (sheet : Sheet) (k : RowKey) → is_of sheet k ≡ true → length (key_texts k) ≡ key_len sheet
+pub key_wide : (sheet : Sheet) (k : RowKey) → is_key_of sheet k ≡ true → length (key_texts k) ≡ key_len sheet
 key_wide Sheet.Lei (RowKey.Rec lei) e = refl
 key_wide Sheet.Lei (RowKey.Rel start kind end) e = absurd (false≢true e)
 key_wide Sheet.Lei (RowKey.Exc lei category) e = absurd (false≢true e)
@@ -291,34 +291,34 @@ unpadded k texts n x is wide =
 
 -- and when there are enough of them
 pub dropped_is : (sheet : Sheet) (k : KeyTexts) (texts : List Text) → texts ≡ k ++ replicate (length texts - key_len sheet) (codes "")
-    → length texts ≡ width sheet → row_of sheet texts ≡ dropped_row sheet k
+    → length texts ≡ width sheet → row_of_texts sheet texts ≡ dropped_row sheet k
 dropped_is sheet k texts made wide =
-    ap (row_of sheet) (made ∙ ap (λ n. k ++ replicate (n - key_len sheet) (codes "")) wide)
+    ap (row_of_texts sheet) (made ∙ ap (λ n. k ++ replicate (n - key_len sheet) (codes "")) wide)
 
 -- what was joined for the keys that changed after a publication
 pub found_behind : (sheet : Sheet) (issues : List Issue) (sides : Sides) (now : Kept) (n : ℕ) (side : SideState) (slice : List Issue)
-    (keys handed : List TextKey) (changes read : List TextChange) → kept_of issues sides ≡ now → slice ≡ issues → handed ≡ keys
-    → map texts_in keys ≡ in_order (changed_in sheet (take (length slice - n) (drop n slice))) → side ≡ side_of sides sheet
+    (keys handed : List TextKey) (changes read : List TextChange) → kept_parts issues sides ≡ now → slice ≡ issues → handed ≡ keys
+    → map texts_in keys ≡ keys_in_order (changed_in sheet (take (length slice - n) (drop n slice))) → side ≡ side_of sides sheet
     → map rendered_in changes ≡ map (λ key. shown_in sheet side.lines (texts_in key)) handed → map rendered_in read ≡ map rendered_in changes
-    → map rendered_in read ≡ map (shown_in sheet (lines_of now sheet)) (in_order (changed_in sheet (drop n now.issues)))
+    → map rendered_in read ≡ map (shown_in sheet (lines_of now sheet)) (keys_in_order (changed_in sheet (drop n now.issues)))
 found_behind sheet issues sides now n side slice keys handed changes read view same even ordered is found again =
     again ∙ found ∙ ap (map (λ key. shown_in sheet side.lines (texts_in key))) even
     ∙ map_texts (shown_in sheet side.lines) keys
     ∙ ap (λ l. map (shown_in sheet l) (map texts_in keys)) (ap (λ (s : SideState). s.lines) is ∙ kept_lines issues sides sheet ∙ ap (λ k. lines_of k sheet) view)
-    ∙ ap (map (shown_in sheet (lines_of now sheet))) (ordered ∙ ap (λ l. in_order (changed_in sheet l)) (take_rest slice n)
-    ∙ ap (λ l. in_order (changed_in sheet (drop n l))) (same ∙ ap (λ k. k.issues) view))
+    ∙ ap (map (shown_in sheet (lines_of now sheet))) (ordered ∙ ap (λ l. keys_in_order (changed_in sheet l)) (take_rest slice n)
+    ∙ ap (λ l. keys_in_order (changed_in sheet (drop n l))) (same ∙ ap (λ k. k.issues) view))
 
 -- ---- the delta
 
-pub rows_latest : (trail : Trail) (last : Publication) (sheet : Sheet) → IsSound trail → latest trail ≡ Some last → AreRows sheet (last.rows sheet)
+pub rows_latest : (trail : Trail) (last : Publication) (sheet : Sheet) → IsSoundTrail trail → latest trail ≡ Some last → AreRows sheet (last.rows sheet)
 rows_latest trail last sheet sound is = subst (λ o. AreRows sheet ((unwrap_or o nothing_published).rows sheet)) is (latest_sound trail sound sheet)
 
-pub rows_each : (trail : Trail) (last : Publication) (sheet : Sheet) → IsSound trail → latest trail ≡ Some last → All (IsRowOf sheet) (last.rows sheet)
+pub rows_each : (trail : Trail) (last : Publication) (sheet : Sheet) → IsSoundTrail trail → latest trail ≡ Some last → All (IsRowOfSheet sheet) (last.rows sheet)
 rows_each trail last sheet sound is = let are = rows_latest trail last sheet sound is in are.each
 
-pub lines_latest : (trail : Trail) (last : Publication) (now : Kept) (sheet : Sheet) → Keeps trail now → latest trail ≡ Some last
-    → lines_of now sheet ≡ map line_of (last.rows sheet)
-lines_latest trail last now sheet keeps is = keeps.lines_are sheet ∙ ap (λ o. map line_of ((unwrap_or o nothing_published).rows sheet)) is
+pub lines_latest : (trail : Trail) (last : Publication) (now : Kept) (sheet : Sheet) → KeepsTrail trail now → latest trail ≡ Some last
+    → lines_of now sheet ≡ map keyed_line (last.rows sheet)
+lines_latest trail last now sheet keeps is = keeps.lines_are sheet ∙ ap (λ o. map keyed_line ((unwrap_or o nothing_published).rows sheet)) is
 
 pub delta_given : (trail : Trail) (last : Publication) (sheet : Sheet) (form : Form) (wide : Bool) (text : Text) (from publication : ℕ) (moment : ℤ)
     → latest trail ≡ Some last

@@ -16,15 +16,15 @@ use Rattle.lei_records.specs.declared.view.RowKey.{RowKey}
 use Rattle.lei_records.specs.Tables.{KeyTexts, key_cmp}
 use Rattle.copy_csv.specs.declared.rows.Change.{Change}
 use Rattle.register_words.specs.declared.sheets.Sheet.{Sheet}
-use Rattle.copy_csv.specs.Rows.{AreRising, AreRows, IsRowOf}
+use Rattle.copy_csv.specs.Rows.{AreRows, IsRowOfSheet, KeysRise}
 use Rattle.copy_csv.specs.Sheets.{SheetRow, fits, key, key_len}
 use Rattle.copy_csv.proofs.RowLemmas.{key_total}
-use Rattle.copy_forms.specs.Files.{rendered}
-use Rattle.copy_forms.specs.Patching.{Keyed, all_changed, changed, keyed, patched}
-use Rattle.copy_forms.specs.Trails.{IsKeyOf, IsNext, Publication, change_to, dropped_row, is_among, row_under}
-use Rattle.golden_shelf.specs.Changes.{AreOwnChanges, ArePlain, Changes, IsIssued, IsOwnChange, IsPlain, IsRowUnder, changes_of, in_sheet, touched_by}
-use Rattle.golden_shelf.specs.Keys.{is_of, key_texts, sheet_of}
-use Rattle.golden_shelf.specs.Lines.{LineChange, line_of, with_lines}
+use Rattle.copy_forms.specs.Files.{row_renderings}
+use Rattle.copy_forms.specs.Patching.{Keyed, after_change, all_changed, patched, rows_by_key}
+use Rattle.copy_forms.specs.Trails.{IsKeyOf, IsNextPublication, Publication, change_to, dropped_row, is_key_among, row_under}
+use Rattle.golden_shelf.specs.Changes.{AreOwnChanges, ArePlain, IsIssued, IsOwnChange, IsPlain, IsRowUnder, KeyChanges, changes_of, in_sheet, touched_by}
+use Rattle.golden_shelf.specs.Keys.{is_key_of, key_texts, sheet_of_key}
+use Rattle.golden_shelf.specs.Lines.{LineChange, keyed_line, with_lines}
 use Rattle.golden_shelf.proofs.SideLemmas.{after, after_none, find_with_lines, is_changed, tied}
 use Rattle.golden_shelf.proofs.Woven.{both, find_none, key_same, less, sorted_with_lines}
 
@@ -33,14 +33,14 @@ use Rattle.golden_shelf.proofs.Woven.{both, find_none, key_same, less, sorted_wi
 abbrev pub Pair : Type 0
 Pair = KeyTexts × Option SheetRow
 
-abbrev pub pairs_of : Sheet → Changes → List Pair
+abbrev pub pairs_of : Sheet → KeyChanges → List Pair
 pairs_of sheet changes = map (λ c. (key_texts c.0, c.1)) (in_sheet sheet changes)
 
 abbrev pub to_change : Sheet → Pair → Change
 to_change sheet p = change_to sheet p.0 p.1
 
 abbrev pub to_line : Pair → LineChange
-to_line p = (p.0, option_map rendered p.1)
+to_line p = (p.0, option_map row_renderings p.1)
 
 pub record IsGood (sheet : Sheet) (p : Pair) : Type 0 where
   pub key_is : IsKeyOf sheet p.0
@@ -50,13 +50,13 @@ map_map : {X Y Z : Type 0} (g : Y → Z) (h : X → Y) (xs : List X) → map (λ
 map_map g h [] = refl
 map_map g h (x ∷ xs) = ap (λ l. g (h x) ∷ l) (map_map g h xs)
 
-pub changes_pairs : (sheet : Sheet) (changes : Changes) → changes_of sheet changes ≡ map (to_change sheet) (pairs_of sheet changes)
+pub changes_pairs : (sheet : Sheet) (changes : KeyChanges) → changes_of sheet changes ≡ map (to_change sheet) (pairs_of sheet changes)
 changes_pairs sheet changes = map_map (to_change sheet) (λ c. (key_texts c.0, c.1)) (in_sheet sheet changes)
 
-pub touched_pairs : (sheet : Sheet) (changes : Changes) → touched_by sheet changes ≡ map (λ (p : Pair). p.0) (pairs_of sheet changes)
+pub touched_pairs : (sheet : Sheet) (changes : KeyChanges) → touched_by sheet changes ≡ map (λ (p : Pair). p.0) (pairs_of sheet changes)
 touched_pairs sheet changes = map_map (λ (p : Pair). p.0) (λ c. (key_texts c.0, c.1)) (in_sheet sheet changes)
 
-of_sheet : (sheet : Sheet) (k : RowKey) → is_of sheet k ≡ true → sheet_of k ≡ sheet
+of_sheet : (sheet : Sheet) (k : RowKey) → is_key_of sheet k ≡ true → sheet_of_key k ≡ sheet
 of_sheet Sheet.Lei (RowKey.Rec lei) e = refl
 of_sheet Sheet.Lei (RowKey.Rel start kind end) e = absurd (false≢true e)
 of_sheet Sheet.Lei (RowKey.Exc lei category) e = absurd (false≢true e)
@@ -67,15 +67,15 @@ of_sheet Sheet.Repex (RowKey.Rec lei) e = absurd (false≢true e)
 of_sheet Sheet.Repex (RowKey.Rel start kind end) e = absurd (false≢true e)
 of_sheet Sheet.Repex (RowKey.Exc lei category) e = refl
 
-good_pair : (sheet : Sheet) (c : RowKey × Option SheetRow) → sheet_of c.0 ≡ sheet → IsOwnChange c → IsGood sheet (key_texts c.0, c.1)
+good_pair : (sheet : Sheet) (c : RowKey × Option SheetRow) → sheet_of_key c.0 ≡ sheet → IsOwnChange c → IsGood sheet (key_texts c.0, c.1)
 good_pair sheet c is own =
     record { key_is = subst (λ s. IsKeyOf s (key_texts c.0)) is own.key_is; row_is = subst (λ s. IfSome c.1 (IsRowUnder s (key_texts c.0))) is own.row_is }
 
-pub good_pairs : (sheet : Sheet) (changes : Changes) → AllByRecursion IsOwnChange changes → AllByRecursion (IsGood sheet) (pairs_of sheet changes)
+pub good_pairs : (sheet : Sheet) (changes : KeyChanges) → AllByRecursion IsOwnChange changes → AllByRecursion (IsGood sheet) (pairs_of sheet changes)
 good_pairs sheet [] own = tt
-good_pairs sheet (c ∷ cs) own = by (good_pairs sheet cs own.1) (is_of sheet c.0) refl
+good_pairs sheet (c ∷ cs) own = by (good_pairs sheet cs own.1) (is_key_of sheet c.0) refl
   where
-    by : AllByRecursion (IsGood sheet) (pairs_of sheet cs) → (b : Bool) → is_of sheet c.0 ≡ b
+    by : AllByRecursion (IsGood sheet) (pairs_of sheet cs) → (b : Bool) → is_key_of sheet c.0 ≡ b
         → AllByRecursion (IsGood sheet) (map (λ c. (key_texts c.0, c.1)) (cond b (c ∷ in_sheet sheet cs) (in_sheet sheet cs)))
     by later true e = (good_pair sheet c (of_sheet sheet c.0 e) own.0, later)
     by later false e = later
@@ -86,7 +86,7 @@ key_dropped : (sheet : Sheet) (k : KeyTexts) → IsKeyOf sheet k → key (droppe
 key_dropped sheet k is = take_at k _ (key_len sheet) is.full
 
 changed_one : (sheet : Sheet) (m : Keyed) (p : Pair) → IsGood sheet p → (k : KeyTexts)
-    → get (changed m (to_change sheet p)) k ≡ cond (eq_by_cmp key_cmp k p.0) p.1 (get m k)
+    → get (after_change m (to_change sheet p)) k ≡ cond (eq_by_cmp key_cmp k p.0) p.1 (get m k)
 changed_one sheet m (j, None) good k = get-remove key_total m (key (dropped_row sheet j)) k
     ∙ ap (λ i. cond (eq_by_cmp key_cmp k i) None (get m k)) (key_dropped sheet j good.key_is)
 changed_one sheet m (j, Some row) good k = get-insert key_total m (key row) row k
@@ -96,7 +96,7 @@ get_all : (sheet : Sheet) (m : Keyed) (ps : List Pair) → AllByRecursion (IsGoo
     → get (all_changed m (map (to_change sheet) ps)) k ≡ after ps k (get m k)
 get_all sheet m [] good k = refl
 get_all sheet m (p ∷ ps) good k =
-    get_all sheet (changed m (to_change sheet p)) ps good.1 k ∙ ap (after ps k) (changed_one sheet m p good.0 k)
+    get_all sheet (after_change m (to_change sheet p)) ps good.1 k ∙ ap (after ps k) (changed_one sheet m p good.0 k)
 
 some_of : {X : Type 0} (Q : X → Type 0) (o : Option X) (x : X) → IfSome o Q → o ≡ Some x → Q x
 some_of Q None x i e = absurd (false≢true (ap is_some e))
@@ -116,17 +116,17 @@ after_good sheet (p ∷ ps) k found good was row e =
 abbrev pub under_keys : List SheetRow → List (KeyTexts × SheetRow)
 under_keys rows = map (λ row. (key row, row)) rows
 
-rows_good : (sheet : Sheet) (rows : List SheetRow) → All (IsRowOf sheet) rows → (k : KeyTexts) (row : SheetRow)
+rows_good : (sheet : Sheet) (rows : List SheetRow) → All (IsRowOfSheet sheet) rows → (k : KeyTexts) (row : SheetRow)
     → find key_cmp k (under_keys rows) ≡ Some row → IsRowUnder sheet k row
 rows_good sheet [] all k row e = absurd (false≢true (ap is_some e))
 rows_good sheet (x ∷ rows) all k row e =
-    by (rows_good sheet rows (All-tail (IsRowOf sheet) x rows all) k row) (eq_by_cmp key_cmp k (key x)) refl e
+    by (rows_good sheet rows (All-tail (IsRowOfSheet sheet) x rows all) k row) (eq_by_cmp key_cmp k (key x)) refl e
   where
     by : (find key_cmp k (under_keys rows) ≡ Some row → IsRowUnder sheet k row) → (b : Bool) → eq_by_cmp key_cmp k (key x) ≡ b
         → cond b (Some x) (find key_cmp k (under_keys rows)) ≡ Some row → IsRowUnder sheet k row
     by later true is e =
         let same : x ≡ row = ap (λ r. unwrap_or r x) e in
-        record { row_is = subst (IsRowOf sheet) same (All-head (IsRowOf sheet) x rows all); key_is = ap key (sym same) ∙ sym (tied k (key x) is) }
+        record { row_is = subst (IsRowOfSheet sheet) same (All-head (IsRowOfSheet sheet) x rows all); key_is = ap key (sym same) ∙ sym (tied k (key x) is) }
     by later false is e = later e
 
 -- ---- entries
@@ -155,27 +155,27 @@ module _ (sheet : Sheet) where
   values_entries (e ∷ es) are = ap (λ k. (k, e.1) ∷ under_keys (map (λ (e : KeyTexts × SheetRow). e.1) es)) are.0.key_is
       ∙ ap (λ l. e ∷ l) (values_entries es are.1)
 
-  values_rows : (es : List (KeyTexts × SheetRow)) → AreUnder es → All (IsRowOf sheet) (map (λ (e : KeyTexts × SheetRow). e.1) es)
-  values_rows [] are = All-nil (IsRowOf sheet)
-  values_rows (e ∷ es) are = All-cons (IsRowOf sheet) e.1 (map (λ (e : KeyTexts × SheetRow). e.1) es) are.0.row_is (values_rows es are.1)
+  values_rows : (es : List (KeyTexts × SheetRow)) → AreUnder es → All (IsRowOfSheet sheet) (map (λ (e : KeyTexts × SheetRow). e.1) es)
+  values_rows [] are = All-nil (IsRowOfSheet sheet)
+  values_rows (e ∷ es) are = All-cons (IsRowOfSheet sheet) e.1 (map (λ (e : KeyTexts × SheetRow). e.1) es) are.0.row_is (values_rows es are.1)
 
 -- the line under a key has the rendered texts of the row under it
-pub find_lines : (rows : List SheetRow) (k : KeyTexts) → find key_cmp k (map line_of rows) ≡ option_map rendered (find key_cmp k (under_keys rows))
+pub find_lines : (rows : List SheetRow) (k : KeyTexts) → find key_cmp k (map keyed_line rows) ≡ option_map row_renderings (find key_cmp k (under_keys rows))
 find_lines [] k = refl
 find_lines (x ∷ rows) k = by (eq_by_cmp key_cmp k (key x)) (find_lines rows k)
   where
-    by : (b : Bool) → find key_cmp k (map line_of rows) ≡ option_map rendered (find key_cmp k (under_keys rows))
-        → cond b (Some (rendered x)) (find key_cmp k (map line_of rows)) ≡ option_map rendered (cond b (Some x) (find key_cmp k (under_keys rows)))
+    by : (b : Bool) → find key_cmp k (map keyed_line rows) ≡ option_map row_renderings (find key_cmp k (under_keys rows))
+        → cond b (Some (row_renderings x)) (find key_cmp k (map keyed_line rows)) ≡ option_map row_renderings (cond b (Some x) (find key_cmp k (under_keys rows)))
     by true later = refl
     by false later = later
 
-below_lines : (k : KeyTexts) (rows : List SheetRow) → below_all key_cmp k (map line_of rows) ≡ below_all key_cmp k (under_keys rows)
+below_lines : (k : KeyTexts) (rows : List SheetRow) → below_all key_cmp k (map keyed_line rows) ≡ below_all key_cmp k (under_keys rows)
 below_lines k [] = refl
 below_lines k (x ∷ rows) = ap (λ b. is_lt (key_cmp k (key x)) && b) (below_lines k rows)
 
-sorted_lines : (rows : List SheetRow) → is_sorted key_cmp (map line_of rows) ≡ is_sorted key_cmp (under_keys rows)
+sorted_lines : (rows : List SheetRow) → is_sorted key_cmp (map keyed_line rows) ≡ is_sorted key_cmp (under_keys rows)
 sorted_lines [] = refl
-sorted_lines (x ∷ rows) = ap (λ b. b && is_sorted key_cmp (map line_of rows)) (below_lines (key x) rows)
+sorted_lines (x ∷ rows) = ap (λ b. b && is_sorted key_cmp (map keyed_line rows)) (below_lines (key x) rows)
     ∙ ap (λ b. below_all key_cmp (key x) (under_keys rows) && b) (sorted_lines rows)
 
 pub joined : (a b : Bool) → a ≡ true → b ≡ true → (a && b) ≡ true
@@ -186,7 +186,7 @@ above : (k : KeyTexts) (rows : List SheetRow) → AllByRecursion (λ j. key_cmp 
 above k [] all = refl
 above k (x ∷ rows) all = joined (is_lt (key_cmp k (key x))) (below_all key_cmp k (under_keys rows)) (ap is_lt all.0) (above k rows all.1)
 
-sorted_rows : (rows : List SheetRow) → AreRising (map key rows) → is_sorted key_cmp (under_keys rows) ≡ true
+sorted_rows : (rows : List SheetRow) → KeysRise (map key rows) → is_sorted key_cmp (under_keys rows) ≡ true
 unfolding IsStrictlySortedBy
 sorted_rows [] rising = refl
 sorted_rows (x ∷ rows) rising =
@@ -197,19 +197,19 @@ below_keys k [] e = tt
 below_keys k (x ∷ rows) e =
     let parts = both (is_lt (key_cmp k (key x))) (below_all key_cmp k (under_keys rows)) e in (less (key_cmp k (key x)) parts.0, below_keys k rows parts.1)
 
-pub rising_rows : (rows : List SheetRow) → is_sorted key_cmp (under_keys rows) ≡ true → AreRising (map key rows)
+pub rising_rows : (rows : List SheetRow) → is_sorted key_cmp (under_keys rows) ≡ true → KeysRise (map key rows)
 unfolding IsStrictlySortedBy
 rising_rows [] e = tt
 rising_rows (x ∷ rows) e =
     let parts = both (below_all key_cmp (key x) (under_keys rows)) (is_sorted key_cmp (under_keys rows)) e in
     (below_keys (key x) rows parts.0, rising_rows rows parts.1)
 
-after_lines : (ps : List Pair) (k : KeyTexts) (found : Option SheetRow) → after (map to_line ps) k (option_map rendered found) ≡ option_map rendered (after ps k found)
+after_lines : (ps : List Pair) (k : KeyTexts) (found : Option SheetRow) → after (map to_line ps) k (option_map row_renderings found) ≡ option_map row_renderings (after ps k found)
 after_lines [] k found = refl
 after_lines (p ∷ ps) k found =
     ap (after (map to_line ps) k) (by (eq_by_cmp key_cmp k p.0)) ∙ after_lines ps k (cond (eq_by_cmp key_cmp k p.0) p.1 found)
   where
-    by : (b : Bool) → cond b (option_map rendered p.1) (option_map rendered found) ≡ option_map rendered (cond b p.1 found)
+    by : (b : Bool) → cond b (option_map row_renderings p.1) (option_map row_renderings found) ≡ option_map row_renderings (cond b p.1 found)
     by true = refl
     by false = refl
 
@@ -223,17 +223,17 @@ tells false t = absurd t
 pub record AreNewRows (sheet : Sheet) (rows : List SheetRow) (ps : List Pair) (after_all : List SheetRow) : Type 0 where
   pub rows_are : AreRows sheet after_all
   pub found : (k : KeyTexts) → row_under after_all k ≡ after ps k (row_under rows k)
-  pub lines_are : with_lines (map line_of rows) (map to_line ps) ≡ map line_of after_all
+  pub lines_are : with_lines (map keyed_line rows) (map to_line ps) ≡ map keyed_line after_all
 
 pub new_rows : (sheet : Sheet) (rows : List SheetRow) (ps : List Pair) → AreRows sheet rows → AllByRecursion (IsGood sheet) ps
     → AreNewRows sheet rows ps (patched rows (map (to_change sheet) ps))
 new_rows sheet rows ps are good =
-    let m : Keyed = all_changed (keyed rows) (map (to_change sheet) ps) in
-    let under : (k : KeyTexts) → get (keyed rows) k ≡ find key_cmp k (under_keys rows) = λ k. get-from_entries key_total (under_keys rows) k in
-    let gets : (k : KeyTexts) → get m k ≡ after ps k (get (keyed rows) k) = get_all sheet (keyed rows) ps good in
+    let m : Keyed = all_changed (rows_by_key rows) (map (to_change sheet) ps) in
+    let under : (k : KeyTexts) → get (rows_by_key rows) k ≡ find key_cmp k (under_keys rows) = λ k. get-from_entries key_total (under_keys rows) k in
+    let gets : (k : KeyTexts) → get m k ≡ after ps k (get (rows_by_key rows) k) = get_all sheet (rows_by_key rows) ps good in
     let sorted : is_sorted key_cmp (entries m) ≡ true = tells _ (entries_sorted m) in
     let each : AllByRecursion (λ e. IsRowUnder sheet e.0 e.1) (entries m) =
-    each_entry (IsRowUnder sheet) (entries m) sorted (λ k row e. after_good sheet ps k (get (keyed rows) k) good
+    each_entry (IsRowUnder sheet) (entries m) sorted (λ k row e. after_good sheet ps k (get (rows_by_key rows) k) good
     (λ row e. rows_good sheet rows are.each k row (sym (under k) ∙ e)) row (sym (gets k) ∙ get-entries m k ∙ e)) in
     let same : under_keys (values m) ≡ entries m = values_entries sheet (entries m) each in
     let sorted_values : is_sorted key_cmp (under_keys (values m)) ≡ true = ap (is_sorted key_cmp) same ∙ sorted in
@@ -242,13 +242,13 @@ new_rows sheet rows ps are good =
       rows_are = record { each = values_rows sheet (entries m) each; rising = rising_rows (values m) sorted_values };
       found = λ k. get-from_entries key_total (under_keys (values m)) k ∙ finds k ∙ gets k;
       lines_are =
-          same_entries key_cmp key_total key_same (with_lines (map line_of rows) (map to_line ps)) (map line_of (values m))
-          (subst T (sym (sorted_with_lines (map line_of rows) (map to_line ps) (sorted_lines rows ∙ sorted_rows rows are.rising))) tt)
+          same_entries key_cmp key_total key_same (with_lines (map keyed_line rows) (map to_line ps)) (map keyed_line (values m))
+          (subst T (sym (sorted_with_lines (map keyed_line rows) (map to_line ps) (sorted_lines rows ∙ sorted_rows rows are.rising))) tt)
           (subst T (sym (sorted_lines (values m) ∙ sorted_values)) tt)
-          (λ k. find_with_lines (map line_of rows) (map to_line ps) k
-          ∙ ap (after (map to_line ps) k) (find_lines rows k ∙ ap (option_map rendered) (sym (under k)))
-          ∙ after_lines ps k (get (keyed rows) k)
-          ∙ ap (option_map rendered) (sym (finds k ∙ gets k))
+          (λ k. find_with_lines (map keyed_line rows) (map to_line ps) k
+          ∙ ap (after (map to_line ps) k) (find_lines rows k ∙ ap (option_map row_renderings) (sym (under k)))
+          ∙ after_lines ps k (get (rows_by_key rows) k)
+          ∙ ap (option_map row_renderings) (sym (finds k ∙ gets k))
           ∙ sym (find_lines (values m) k));
     }
 
@@ -277,7 +277,7 @@ found_such P (x ∷ rows) all k row e = by (found_such P rows (All-tail P x rows
     by later false e = later e
 
 -- and all rows have a property if each row that is found has it
-such_rows : (P : SheetRow → Type 0) (rows : List SheetRow) → AreRising (map key rows)
+such_rows : (P : SheetRow → Type 0) (rows : List SheetRow) → KeysRise (map key rows)
     → ((k : KeyTexts) (row : SheetRow) → find key_cmp k (under_keys rows) ≡ Some row → P row) → All P rows
 such_rows P rows rising each = listed rows (each_entry (λ k row. P row) (under_keys rows) (sorted_rows rows rising) each)
   where
@@ -297,7 +297,7 @@ stay_such P sheet rows ps after_all are old such =
 abbrev pub IsPlainRow : SheetRow → Type 0
 IsPlainRow row = IsTrue (fits false row)
 
-plain_pairs : (changes : Changes) → AllByRecursion IsPlain changes
+plain_pairs : (changes : KeyChanges) → AllByRecursion IsPlain changes
     → AllByRecursion (λ (p : Pair). IfSome p.1 IsPlainRow) (map (λ c. (key_texts c.0, c.1)) changes)
 plain_pairs [] all = tt
 plain_pairs (c ∷ changes) all = (all.0, plain_pairs changes all.1)
@@ -314,7 +314,7 @@ narrow_before : (before wide : Bool) → (before ≡ true → wide ≡ true) →
 narrow_before true wide widens narrow = absurd (false≢true (sym narrow ∙ widens refl))
 narrow_before false wide widens narrow = refl
 
-changed_is : (k : KeyTexts) (ps : List Pair) → is_changed k ps ≡ is_among k (map (λ (p : Pair). p.0) ps)
+changed_is : (k : KeyTexts) (ps : List Pair) → is_changed k ps ≡ is_key_among k (map (λ (p : Pair). p.0) ps)
 changed_is k [] = refl
 changed_is k (p ∷ ps) = ap (λ b. eq_by_cmp key_cmp k p.0 || b) (changed_is k ps)
 
@@ -322,10 +322,10 @@ keys_good : (sheet : Sheet) (ps : List Pair) → AllByRecursion (IsGood sheet) p
 keys_good sheet [] good = All-nil (IsKeyOf sheet)
 keys_good sheet (p ∷ ps) good = All-cons (IsKeyOf sheet) p.0 (map (λ (p : Pair). p.0) ps) good.0.key_is (keys_good sheet ps good.1)
 
-pub follows : (before : Publication) (moment : ℤ) (wide : Bool) (changes : Changes) (next : Publication) → Stands before
+pub follows : (before : Publication) (moment : ℤ) (wide : Bool) (changes : KeyChanges) (next : Publication) → Stands before
     → IsMoment moment → AreOwnChanges changes → (before.wide ≡ true → wide ≡ true) → (wide ≡ false → ArePlain changes)
     → IsIssued before.rows moment wide changes next
-    → ((sheet : Sheet) → AreNewRows sheet (before.rows sheet) (pairs_of sheet changes) (next.rows sheet)) × IsNext before next
+    → ((sheet : Sheet) → AreNewRows sheet (before.rows sheet) (pairs_of sheet changes) (next.rows sheet)) × IsNextPublication before next
 follows before moment wide changes next stands is own widens plain issued =
     let news : (sheet : Sheet) → AreNewRows sheet (before.rows sheet) (pairs_of sheet changes) (next.rows sheet) = λ sheet.
     subst (AreNewRows sheet (before.rows sheet) (pairs_of sheet changes))
@@ -338,7 +338,7 @@ follows before moment wide changes next stands is own widens plain issued =
         keys_are = λ sheet. subst (All (IsKeyOf sheet)) (sym (issued.touched_are sheet ∙ touched_pairs sheet changes))
             (keys_good sheet (pairs_of sheet changes) (good_pairs sheet changes own.each));
         kept = λ sheet k un. (news sheet).found k ∙ after_none (pairs_of sheet changes) k (row_under (before.rows sheet) k)
-            (changed_is k (pairs_of sheet changes) ∙ ap (is_among k) (sym (issued.touched_are sheet ∙ touched_pairs sheet changes)) ∙ un);
+            (changed_is k (pairs_of sheet changes) ∙ ap (is_key_among k) (sym (issued.touched_are sheet ∙ touched_pairs sheet changes)) ∙ un);
         widens = λ before_wide. issued.wide_is ∙ widens before_wide;
         plain = λ next_narrow. let narrow : wide ≡ false = sym issued.wide_is ∙ next_narrow in
             stay_such IsPlainRow Sheet.Lei (before.rows Sheet.Lei) (pairs_of Sheet.Lei changes) (next.rows Sheet.Lei) (news Sheet.Lei)

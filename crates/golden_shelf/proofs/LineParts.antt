@@ -8,7 +8,7 @@ use Rattle.lei_records.specs.Tables.{KeyTexts, key_cmp}
 use Rattle.copy_csv.specs.declared.rows.RowTexts.{RowTexts}
 use Rattle.golden_shelf.specs.Beside.{lines_in}
 use Rattle.golden_shelf.specs.Keys.{key_texts}
-use Rattle.golden_shelf.specs.Lines.{Line}
+use Rattle.golden_shelf.specs.Lines.{KeyedLine}
 use Rattle.golden_shelf.specs.Walks.{first_order, past}
 use Rattle.std.specs.FinMap.Entries.{by_order}
 use Rattle.std.specs.declared.cmp.Ordering.{Ordering}
@@ -19,13 +19,13 @@ length_lines [] (t ∷ texts) same = absurd (omega arith)
 length_lines (k ∷ keys) [] same = absurd (omega arith)
 length_lines (k ∷ keys) (t ∷ texts) same = ap suc (length_lines keys texts (omega arith))
 
-pub texts_lines : (keys : List RowKey) (texts : List RowTexts) → length keys ≡ length texts → map (λ (line : Line). line.1) (lines_in keys texts) ≡ texts
+pub texts_lines : (keys : List RowKey) (texts : List RowTexts) → length keys ≡ length texts → map (λ (line : KeyedLine). line.1) (lines_in keys texts) ≡ texts
 texts_lines [] [] same = refl
 texts_lines [] (t ∷ texts) same = absurd (omega arith)
 texts_lines (k ∷ keys) [] same = absurd (omega arith)
 texts_lines (k ∷ keys) (t ∷ texts) same = ap (λ l. t ∷ l) (texts_lines keys texts (omega arith))
 
-pub keys_lines : (keys : List RowKey) (texts : List RowTexts) → length keys ≡ length texts → map (λ (line : Line). line.0) (lines_in keys texts) ≡ map key_texts keys
+pub keys_lines : (keys : List RowKey) (texts : List RowTexts) → length keys ≡ length texts → map (λ (line : KeyedLine). line.0) (lines_in keys texts) ≡ map key_texts keys
 keys_lines [] [] same = refl
 keys_lines [] (t ∷ texts) same = absurd (omega arith)
 keys_lines (k ∷ keys) [] same = absurd (omega arith)
@@ -62,11 +62,11 @@ copied (Some key) = refl
 pub last_key : (keys : List RowKey) (texts : List RowTexts) (found : Option (Bor RowKey)) → length keys ≡ length texts
     → option_copied found ≡ slice_get keys (length keys - 1)
     → option_map (λ (key : Bor RowKey). key_texts key.now) found
-    ≡ slice_get (map (λ (line : Line). line.0) (lines_in keys texts)) (length (lines_in keys texts) - 1)
+    ≡ slice_get (map (λ (line : KeyedLine). line.0) (lines_in keys texts)) (length (lines_in keys texts) - 1)
 last_key keys texts found same is =
     copied found ∙ ap (option_map key_texts) is ∙ get_key keys (length keys - 1)
     ∙ ap (λ l. slice_get l (length keys - 1)) (sym (keys_lines keys texts same))
-    ∙ ap (λ n. slice_get (map (λ (line : Line). line.0) (lines_in keys texts)) (n - 1)) (same ∙ sym (length_lines keys texts same))
+    ∙ ap (λ n. slice_get (map (λ (line : KeyedLine). line.0) (lines_in keys texts)) (n - 1)) (same ∙ sym (length_lines keys texts same))
 
 -- the last item of a list; for lines in reverse order this is the first line
 get_last : {X : Type 0} (xs : List X) (x : X) (n : ℕ) → n ≡ length xs → slice_get (xs ++ x ∷ []) n ≡ Some x
@@ -77,23 +77,23 @@ map_length : {X Y : Type 0} (f : X → Y) (xs : List X) → length (map f xs) �
 map_length f [] = refl
 map_length f (x ∷ xs) = ap suc (map_length f xs)
 
-of_reversed : (k : KeyTexts) (rest : List Line)
-    → option_map (key_cmp k) (slice_get (map (λ (line : Line). line.0) (reverse rest)) (length (reverse rest) - 1)) ≡ first_order k rest
+of_reversed : (k : KeyTexts) (rest : List KeyedLine)
+    → option_map (key_cmp k) (slice_get (map (λ (line : KeyedLine). line.0) (reverse rest)) (length (reverse rest) - 1)) ≡ first_order k rest
 of_reversed k [] = refl
 of_reversed k (line ∷ rest) =
     ap (option_map (key_cmp k))
-    (ap (λ l. slice_get (map (λ (line : Line). line.0) l) (length l - 1)) (reverse-append (line ∷ []) rest)
-    ∙ ap (λ l. slice_get l (length (reverse rest ++ line ∷ []) - 1)) (map-append (λ (line : Line). line.0) (reverse rest) (line ∷ []))
-    ∙ get_last (map (λ (line : Line). line.0) (reverse rest)) line.0 (length (reverse rest ++ line ∷ []) - 1)
-    (let a = length-append (reverse rest) (line ∷ []) in let b = map_length (λ (line : Line). line.0) (reverse rest) in omega (arith, a, b)))
+    (ap (λ l. slice_get (map (λ (line : KeyedLine). line.0) l) (length l - 1)) (reverse-append (line ∷ []) rest)
+    ∙ ap (λ l. slice_get l (length (reverse rest ++ line ∷ []) - 1)) (map-append (λ (line : KeyedLine). line.0) (reverse rest) (line ∷ []))
+    ∙ get_last (map (λ (line : KeyedLine). line.0) (reverse rest)) line.0 (length (reverse rest ++ line ∷ []) - 1)
+    (let a = length-append (reverse rest) (line ∷ []) in let b = map_length (λ (line : KeyedLine). line.0) (reverse rest) in omega (arith, a, b)))
 
-pub first_of : (k : KeyTexts) (back rest : List Line) (found : Option KeyTexts) → reverse back ≡ rest
-    → found ≡ slice_get (map (λ (line : Line). line.0) back) (length back - 1) → option_map (key_cmp k) found ≡ first_order k rest
+pub first_of : (k : KeyTexts) (back rest : List KeyedLine) (found : Option KeyTexts) → reverse back ≡ rest
+    → found ≡ slice_get (map (λ (line : KeyedLine). line.0) back) (length back - 1) → option_map (key_cmp k) found ≡ first_order k rest
 first_of k back rest found is at =
-    ap (option_map (key_cmp k)) (at ∙ ap (λ l. slice_get (map (λ (line : Line). line.0) l) (length l - 1)) (sym (reverse-reverse back) ∙ ap reverse is))
+    ap (option_map (key_cmp k)) (at ∙ ap (λ l. slice_get (map (λ (line : KeyedLine). line.0) l) (length l - 1)) (sym (reverse-reverse back) ∙ ap reverse is))
     ∙ of_reversed k rest
 
-pub length_past : (k : KeyTexts) (lines : List Line) → length (past k lines) ≤ length lines
+pub length_past : (k : KeyTexts) (lines : List KeyedLine) → length (past k lines) ≤ length lines
 length_past k [] = omega arith
 length_past k (e ∷ es) = by (key_cmp k e.0)
   where

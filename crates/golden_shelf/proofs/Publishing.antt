@@ -14,26 +14,26 @@ use Rattle.lei_records.specs.declared.view.RowKey.{RowKey}
 use Rattle.lei_records.specs.Tables.{KeyTexts, key_cmp}
 use Rattle.copy_csv.specs.declared.rows.RowTexts.{RowTexts}
 use Rattle.register_words.specs.declared.sheets.Sheet.{Sheet}
-use Rattle.copy_csv.specs.Rows.{AreRising, AreRows, IsRowOf}
+use Rattle.copy_csv.specs.Rows.{AreRows, IsRowOfSheet, KeysRise}
 use Rattle.copy_csv.specs.Sheets.{SheetRow}
 use Rattle.register_words.specs.declared.sheets.Form.{Form}
 use Rattle.lei_code.specs.Texts.{Text}
-use Rattle.copy_forms.specs.Files.{copy, may_be_wide, rendered}
-use Rattle.copy_forms.specs.Trails.{FollowOn, IsNext, IsSound, Publication, Trail, copy_of, is_wide_in, nothing_published}
+use Rattle.copy_forms.specs.Files.{copy, may_be_wide, row_renderings}
+use Rattle.copy_forms.specs.Trails.{FollowOn, IsNextPublication, IsSoundTrail, Publication, Trail, copy_of, is_wide_in, nothing_published}
 use Rattle.golden_shelf.specs.declared.issue.Issue.{Issue}
 use Rattle.golden_shelf.specs.declared.lines.Note.{Note}
 use Rattle.golden_shelf.specs.declared.sides.Sides.{Sides}
-use Rattle.golden_shelf.specs.Changes.{AreOwnChanges, ArePlain, Changes, IsIssued, in_sheet, touched_by}
-use Rattle.golden_shelf.specs.Keys.{is_of, key_texts}
-use Rattle.golden_shelf.specs.Lines.{Line, line_of, with_lines}
-use Rattle.golden_shelf.specs.Parts.{kept_of, side_of}
-use Rattle.golden_shelf.specs.Shelves.{AreIssuesOf, IsIssueOf, Keeps, Kept, MayFollow, last_behind, latest, latest_or_nothing, latest_rows, lines_of}
-use Rattle.golden_shelf.specs.Sides.{AreRisingChanges, IsChanged, IsNoteOf, IsSame, SideState, notes_of}
+use Rattle.golden_shelf.specs.Changes.{AreOwnChanges, ArePlain, IsIssued, KeyChanges, in_sheet, touched_by}
+use Rattle.golden_shelf.specs.Keys.{is_key_of, key_texts}
+use Rattle.golden_shelf.specs.Lines.{KeyedLine, keyed_line, with_lines}
+use Rattle.golden_shelf.specs.Parts.{kept_parts, side_of}
+use Rattle.golden_shelf.specs.Shelves.{AreIssuesOf, IsIssueOf, KeepsTrail, Kept, MayFollow, last_after, latest, latest_or_nothing, latest_rows, lines_of}
+use Rattle.golden_shelf.specs.Sides.{AreRisingChanges, IsChanged, IsSameSide, NotesChange, SideState, notes_of}
 use Rattle.golden_shelf.proofs.Keeping.{IsPlainRow, Pair, Stands, follows, joined, pairs_of, rising_rows, to_line, touched_pairs}
 
 -- ---- the latest publication
 
-last_pushed : (first : Publication) (later : Trail) (next : Publication) → last_behind first (later ++ next ∷ []) ≡ next
+last_pushed : (first : Publication) (later : Trail) (next : Publication) → last_after first (later ++ next ∷ []) ≡ next
 last_pushed first [] next = refl
 last_pushed first (p ∷ later) next = last_pushed p later next
 
@@ -42,31 +42,31 @@ latest_push [] next = refl
 latest_push (first ∷ later) next = ap Some (last_pushed first later next)
 
 -- it is the last one if `nothing_published` comes before the first
-latest_is : (trail : Trail) → last_behind nothing_published trail ≡ latest_or_nothing trail
+latest_is : (trail : Trail) → last_after nothing_published trail ≡ latest_or_nothing trail
 latest_is [] = refl
 latest_is (first ∷ later) = refl
 
 follow_push : (before : Publication) (trail : Trail) (next : Publication) → FollowOn before trail
-    → IsNext (last_behind before trail) next → FollowOn before (trail ++ next ∷ [])
+    → IsNextPublication (last_after before trail) next → FollowOn before (trail ++ next ∷ [])
 follow_push before [] next on is = (is, tt)
 follow_push before (p ∷ later) next on is = (on.0, follow_push p later next on.1 is)
 
-last_stands : (before : Publication) (trail : Trail) → Stands before → FollowOn before trail → Stands (last_behind before trail)
+last_stands : (before : Publication) (trail : Trail) → Stands before → FollowOn before trail → Stands (last_after before trail)
 last_stands before [] stands on = stands
 last_stands before (p ∷ later) stands on = last_stands p later (record { rows_are = on.0.rows_are; plain = on.0.plain }) on.1
 
 -- the rows of the latest publication of a sound trail are rows of their sheets, and plain if it is narrow
-latest_stands : (trail : Trail) → IsSound trail → Stands (latest_or_nothing trail)
+latest_stands : (trail : Trail) → IsSoundTrail trail → Stands (latest_or_nothing trail)
 latest_stands trail sound =
     subst Stands (latest_is trail)
     (last_stands nothing_published trail
     (record {
-      rows_are = λ sheet. record { each = All-nil (IsRowOf sheet); rising = rising_rows [] refl };
+      rows_are = λ sheet. record { each = All-nil (IsRowOfSheet sheet); rising = rising_rows [] refl };
       plain = λ narrow. All-nil IsPlainRow;
     })
     sound)
 
-pub latest_sound : (trail : Trail) → IsSound trail → (sheet : Sheet) → AreRows sheet (latest_rows trail sheet)
+pub latest_sound : (trail : Trail) → IsSoundTrail trail → (sheet : Sheet) → AreRows sheet (latest_rows trail sheet)
 latest_sound trail sound sheet = let stands = latest_stands trail sound in stands.rows_are sheet
 
 -- ---- issues
@@ -119,7 +119,7 @@ may_widen issues trail wide are may =
     by (Some i) (Some p) e may is = may (ap (λ o. unwrap_or o i.wide) e ∙ is)
 
 -- and conversely
-pub may_follow : (trail : Trail) (kept : Kept) (wide : Bool) → Keeps trail kept → ((latest_or_nothing trail).wide ≡ true → wide ≡ true)
+pub may_follow : (trail : Trail) (kept : Kept) (wide : Bool) → KeepsTrail trail kept → ((latest_or_nothing trail).wide ≡ true → wide ≡ true)
     → MayFollow kept.issues wide
 may_follow trail kept wide keeps may =
     by (slice_get kept.issues (length kept.issues - 1)) (latest trail) (latest_width kept.issues trail keeps.issues_are) may
@@ -146,28 +146,28 @@ latest_told issues trail n issue are is at =
 
 -- ---- notes
 
-touched_keys : (sheet : Sheet) (changes : Changes) → touched_by sheet changes ≡ map key_texts (filter (is_of sheet) (map (λ c. c.0) changes))
+touched_keys : (sheet : Sheet) (changes : KeyChanges) → touched_by sheet changes ≡ map key_texts (filter (is_key_of sheet) (map (λ c. c.0) changes))
 touched_keys sheet [] = refl
-touched_keys sheet (c ∷ changes) = by (is_of sheet c.0) (touched_keys sheet changes)
+touched_keys sheet (c ∷ changes) = by (is_key_of sheet c.0) (touched_keys sheet changes)
   where
     rest : List RowKey
-    rest = filter (is_of sheet) (map (λ c. c.0) changes)
+    rest = filter (is_key_of sheet) (map (λ c. c.0) changes)
 
     by : (b : Bool) → touched_by sheet changes ≡ map key_texts rest
         → map (λ c. key_texts c.0) (cond b (c ∷ in_sheet sheet changes) (in_sheet sheet changes)) ≡ map key_texts (cond b (c.0 ∷ rest) rest)
     by true later = ap (λ l. key_texts c.0 ∷ l) later
     by false later = later
 
-pub noted : (sheet : Sheet) (changes : Changes) (notes : List Note) → AllZip IsNoteOf changes notes
-    → notes_of (filter (λ note. is_of sheet note.key) notes) ≡ map to_line (pairs_of sheet changes)
+pub noted : (sheet : Sheet) (changes : KeyChanges) (notes : List Note) → AllZip NotesChange changes notes
+    → notes_of (filter (λ note. is_key_of sheet note.key) notes) ≡ map to_line (pairs_of sheet changes)
 noted sheet [] [] are = refl
 noted sheet [] (n ∷ notes) are = absurd are
 noted sheet (c ∷ changes) [] are = absurd are
 noted sheet (c ∷ changes) (n ∷ notes) are =
-    ap (λ k. notes_of (cond (is_of sheet k) (n ∷ rest) rest)) are.0.key_is ∙ by (is_of sheet c.0) (noted sheet changes notes are.1)
+    ap (λ k. notes_of (cond (is_key_of sheet k) (n ∷ rest) rest)) are.0.key_is ∙ by (is_key_of sheet c.0) (noted sheet changes notes are.1)
   where
     rest : List Note
-    rest = filter (λ note. is_of sheet note.key) notes
+    rest = filter (λ note. is_key_of sheet note.key) notes
 
     by : (b : Bool) → notes_of rest ≡ map to_line (pairs_of sheet changes)
         → notes_of (cond b (n ∷ rest) rest) ≡ map to_line (map (λ c. (key_texts c.0, c.1)) (cond b (c ∷ in_sheet sheet changes) (in_sheet sheet changes)))
@@ -180,58 +180,58 @@ below_pairs : (k : KeyTexts) (ps : List Pair) → AllByRecursion (λ j. key_cmp 
 below_pairs k [] all = refl
 below_pairs k (p ∷ ps) all = joined (is_lt (key_cmp k p.0)) (below_all key_cmp k (map to_line ps)) (ap is_lt all.0) (below_pairs k ps all.1)
 
-rising_pairs : (ps : List Pair) → AreRising (map (λ (p : Pair). p.0) ps) → is_sorted key_cmp (map to_line ps) ≡ true
+rising_pairs : (ps : List Pair) → KeysRise (map (λ (p : Pair). p.0) ps) → is_sorted key_cmp (map to_line ps) ≡ true
 unfolding IsStrictlySortedBy
 rising_pairs [] rising = refl
 rising_pairs (p ∷ ps) rising =
     joined (below_all key_cmp p.0 (map to_line ps)) (is_sorted key_cmp (map to_line ps)) (below_pairs p.0 ps rising.0) (rising_pairs ps rising.1)
 
-pub noted_rising : (sheet : Sheet) (changes : Changes) (notes items : List Note) → AllZip IsNoteOf changes notes → AreOwnChanges changes
-    → items ≡ filter (λ note. is_of sheet note.key) notes → AreRisingChanges (notes_of items)
+pub noted_rising : (sheet : Sheet) (changes : KeyChanges) (notes items : List Note) → AllZip NotesChange changes notes → AreOwnChanges changes
+    → items ≡ filter (λ note. is_key_of sheet note.key) notes → AreRisingChanges (notes_of items)
 noted_rising sheet changes notes items are own is =
     subst AreRisingChanges (sym (ap notes_of is ∙ noted sheet changes notes are))
-    (rising_pairs (pairs_of sheet changes) (subst AreRising (touched_pairs sheet changes) (own.rising sheet)))
+    (rising_pairs (pairs_of sheet changes) (subst KeysRise (touched_pairs sheet changes) (own.rising sheet)))
 
 -- ---- the trail that follows
 
-pub keeps_next : (trail : Trail) (kept new : Kept) (changes : Changes) (issue : Issue) (next : Publication) → AreOwnChanges changes
+pub keeps_next : (trail : Trail) (kept new : Kept) (changes : KeyChanges) (issue : Issue) (next : Publication) → AreOwnChanges changes
     → MayFollow kept.issues issue.wide → (issue.wide ≡ false → ArePlain changes)
     → IsMoment issue.moment → new.issues ≡ kept.issues ++ issue ∷ [] → issue.keys ≡ map (λ c. c.0) changes
     → ((sheet : Sheet) → lines_of new sheet ≡ with_lines (lines_of kept sheet) (map to_line (pairs_of sheet changes)))
-    → Keeps trail kept → IsIssued (latest_rows trail) issue.moment issue.wide changes next → Keeps (trail ++ next ∷ []) new
+    → KeepsTrail trail kept → IsIssued (latest_rows trail) issue.moment issue.wide changes next → KeepsTrail (trail ++ next ∷ []) new
 keeps_next trail kept new changes issue next own may plain is issues keys lines keeps issued =
     let step = follows (latest_or_nothing trail) issue.moment issue.wide changes next (latest_stands trail keeps.sound) is own
     (may_widen kept.issues trail issue.wide keeps.issues_are may) plain issued in
     record {
-      sound = follow_push nothing_published trail next keeps.sound (subst (λ before. IsNext before next) (sym (latest_is trail)) step.1);
+      sound = follow_push nothing_published trail next keeps.sound (subst (λ before. IsNextPublication before next) (sym (latest_is trail)) step.1);
       issues_are = subst (λ l. AreIssuesOf l (trail ++ next ∷ [])) (sym issues)
           (issues_push kept.issues trail issue next keeps.issues_are
           (record {
             moment_is = sym issued.moment_is;
             wide_is = sym issued.wide_is;
-            touched_are = λ sheet. issued.touched_are sheet ∙ touched_keys sheet changes ∙ ap (λ l. map key_texts (filter (is_of sheet) l)) (sym keys);
+            touched_are = λ sheet. issued.touched_are sheet ∙ touched_keys sheet changes ∙ ap (λ l. map key_texts (filter (is_key_of sheet) l)) (sym keys);
           }));
       lines_are = λ sheet. lines sheet ∙ ap (λ l. with_lines l (map to_line (pairs_of sheet changes))) (keeps.lines_are sheet)
-          ∙ (step.0 sheet).lines_are ∙ ap (λ o. map line_of ((unwrap_or o nothing_published).rows sheet)) (sym (latest_push trail next));
+          ∙ (step.0 sheet).lines_are ∙ ap (λ o. map keyed_line ((unwrap_or o nothing_published).rows sheet)) (sym (latest_push trail next));
     }
 
 -- ---- what is read from a shelf
 
-pub kept_lines : (issues : List Issue) (sides : Sides) (sheet : Sheet) → (side_of sides sheet).lines ≡ lines_of (kept_of issues sides) sheet
+pub kept_lines : (issues : List Issue) (sides : Sides) (sheet : Sheet) → (side_of sides sheet).lines ≡ lines_of (kept_parts issues sides) sheet
 kept_lines issues sides Sheet.Lei = refl
 kept_lines issues sides Sheet.Rr = refl
 kept_lines issues sides Sheet.Repex = refl
 
-pub texts_of_rows : (rows : List SheetRow) → map (λ (line : Line). line.1) (map line_of rows) ≡ map rendered rows
+pub texts_of_rows : (rows : List SheetRow) → map (λ (line : KeyedLine). line.1) (map keyed_line rows) ≡ map row_renderings rows
 texts_of_rows [] = refl
-texts_of_rows (x ∷ rows) = ap (λ l. rendered x ∷ l) (texts_of_rows rows)
+texts_of_rows (x ∷ rows) = ap (λ l. row_renderings x ∷ l) (texts_of_rows rows)
 
 pub rows_kept : (issues : List Issue) (sides : Sides) (now : Kept) (trail : Trail) (last : Publication) (sheet : Sheet) (texts : List RowTexts)
-    → kept_of issues sides ≡ now → Keeps trail now → latest trail ≡ Some last → texts ≡ map (λ (line : Line). line.1) (side_of sides sheet).lines
-    → texts ≡ map rendered (last.rows sheet)
+    → kept_parts issues sides ≡ now → KeepsTrail trail now → latest trail ≡ Some last → texts ≡ map (λ (line : KeyedLine). line.1) (side_of sides sheet).lines
+    → texts ≡ map row_renderings (last.rows sheet)
 rows_kept issues sides now trail last sheet texts view keeps is are =
-    are ∙ ap (map (λ (line : Line). line.1)) (kept_lines issues sides sheet ∙ ap (λ k. lines_of k sheet) view ∙ keeps.lines_are sheet)
-    ∙ texts_of_rows (latest_rows trail sheet) ∙ ap (λ o. map rendered ((unwrap_or o nothing_published).rows sheet)) is
+    are ∙ ap (map (λ (line : KeyedLine). line.1)) (kept_lines issues sides sheet ∙ ap (λ k. lines_of k sheet) view ∙ keeps.lines_are sheet)
+    ∙ texts_of_rows (latest_rows trail sheet) ∙ ap (λ o. map row_renderings ((unwrap_or o nothing_published).rows sheet)) is
 
 -- the files of the latest publication are wide if and only if its issue says so
 pub wide_told : (issues : List Issue) (now : List Issue) (trail : Trail) (last : Publication) (sheet : Sheet) (form : Form) (issue : Issue)
@@ -269,21 +269,21 @@ if_ok (Ok v) P Q h f = f v h
 if_ok (Err e) P Q h f = tt
 
 pub all_noted : {F E : Type 0} (g : Shared F (Bor (RowKey × Option SheetRow) × Unit {0}) (Result Note E)) (f : F)
-    → ((z : Bor (RowKey × Option SheetRow)) (note : Note) → g.post f (z, tt) (Ok note) → IsNoteOf z.now note)
-    → (changes : Changes) (notes : List Note) → AllZip (λ x u. FnReturnsAt g f x (Ok u)) changes notes → AllZip IsNoteOf changes notes
+    → ((z : Bor (RowKey × Option SheetRow)) (note : Note) → g.post f (z, tt) (Ok note) → NotesChange z.now note)
+    → (changes : KeyChanges) (notes : List Note) → AllZip (λ x u. FnReturnsAt g f x (Ok u)) changes notes → AllZip NotesChange changes notes
 all_noted g f says [] [] h = tt
 all_noted g f says [] (n ∷ notes) h = absurd h
 all_noted g f says (c ∷ changes) [] h = absurd h
 all_noted g f says (c ∷ changes) (n ∷ notes) h =
-    (subst (λ x. IsNoteOf x n) h.0.shows (says h.0.shown n h.0.says.met), all_noted g f says changes notes h.1)
+    (subst (λ x. NotesChange x n) h.0.shows (says h.0.shown n h.0.says.met), all_noted g f says changes notes h.1)
 
 pub by_sheet : (P : Sheet → Type 0) → P Sheet.Lei → P Sheet.Rr → P Sheet.Repex → (sheet : Sheet) → P sheet
 by_sheet P a b c Sheet.Lei = a
 by_sheet P a b c Sheet.Rr = b
 by_sheet P a b c Sheet.Repex = c
 
-pub lines_next : (sheet : Sheet) (changes : Changes) (notes items : List Note) (old mid new : SideState) → AllZip IsNoteOf changes notes
-    → items ≡ filter (λ note. is_of sheet note.key) notes → IsSame old mid → IsChanged mid new items
+pub lines_next : (sheet : Sheet) (changes : KeyChanges) (notes items : List Note) (old mid new : SideState) → AllZip NotesChange changes notes
+    → items ≡ filter (λ note. is_key_of sheet note.key) notes → IsSameSide old mid → IsChanged mid new items
     → new.lines ≡ with_lines old.lines (map to_line (pairs_of sheet changes))
 lines_next sheet changes notes items old mid new are is same changed =
     changed.lines_are ∙ ap (λ l. with_lines l (notes_of items)) same.lines_are

@@ -11,7 +11,7 @@ use Rattle.lei_records.specs.Tables.{KeyTexts, key_cmp}
 use Rattle.copy_csv.specs.declared.rows.RowTexts.{RowTexts}
 use Rattle.copy_csv.proofs.RowLemmas.{key_total}
 use Rattle.golden_shelf.specs.Beside.{LinesState}
-use Rattle.golden_shelf.specs.Lines.{AreSorted, Line, LineChange, replaced, with_line, with_lines}
+use Rattle.golden_shelf.specs.Lines.{AreSorted, KeyedLine, LineChange, lines_under, with_changed_line, with_lines}
 use Rattle.golden_shelf.specs.declared.lines.Note.{Note}
 use Rattle.golden_shelf.specs.Sides.{AreRisingChanges, AreSide, IsChanged, SideState, notes_of}
 use Rattle.golden_shelf.proofs.Woven.{key_same, sorted_with_lines}
@@ -43,8 +43,8 @@ turned_cond false x y = refl
 swapped : (j k : KeyTexts) → eq_by_cmp key_cmp j k ≡ eq_by_cmp key_cmp k j
 swapped j k = (eq_by_cmp_equiv key_total).symm j k
 
-pub find_with_line : (lines : List Line) (c : LineChange) (k : KeyTexts)
-    → find key_cmp k (with_line lines c) ≡ cond (eq_by_cmp key_cmp k c.0) c.1 (find key_cmp k lines)
+pub find_with_line : (lines : List KeyedLine) (c : LineChange) (k : KeyTexts)
+    → find key_cmp k (with_changed_line lines c) ≡ cond (eq_by_cmp key_cmp k c.0) c.1 (find key_cmp k lines)
 find_with_line lines (j, Some texts) k = find-put key_cmp key_total k j texts lines
 find_with_line lines (j, None) k =
     find-where_key key_cmp (λ other. not (eq_by_cmp key_cmp j other)) k
@@ -52,10 +52,10 @@ find_with_line lines (j, None) k =
     ∙ turned_cond (eq_by_cmp key_cmp j k) (find key_cmp k lines) None
     ∙ ap (λ b. cond b None (find key_cmp k lines)) (swapped j k)
 
-pub find_with_lines : (lines : List Line) (cs : List LineChange) (k : KeyTexts)
+pub find_with_lines : (lines : List KeyedLine) (cs : List LineChange) (k : KeyTexts)
     → find key_cmp k (with_lines lines cs) ≡ after cs k (find key_cmp k lines)
 find_with_lines lines [] k = refl
-find_with_lines lines (c ∷ cs) k = find_with_lines (with_line lines c) cs k ∙ ap (after cs k) (find_with_line lines c k)
+find_with_lines lines (c ∷ cs) k = find_with_lines (with_changed_line lines c) cs k ∙ ap (after cs k) (find_with_line lines c k)
 
 -- ---- changes that are taken back
 
@@ -81,8 +81,8 @@ after_none (p ∷ ps) k found e = by (eq_by_cmp key_cmp k p.0) (after_none ps k)
     by true later e = absurd (false≢true (sym e))
     by false later e = later found e
 
-after_replaced : (lines : List Line) (cs : List LineChange) (k : KeyTexts) (found : Option RowTexts)
-    → after (replaced lines cs) k found ≡ cond (is_changed k cs) (find key_cmp k lines) found
+after_replaced : (lines : List KeyedLine) (cs : List LineChange) (k : KeyTexts) (found : Option RowTexts)
+    → after (lines_under lines cs) k found ≡ cond (is_changed k cs) (find key_cmp k lines) found
 after_replaced lines [] k found = refl
 after_replaced lines (c ∷ cs) k found =
     after_replaced lines cs k (cond (eq_by_cmp key_cmp k c.0) (find key_cmp c.0 lines) found)
@@ -94,11 +94,11 @@ after_replaced lines (c ∷ cs) k found =
     by true false e = ap (λ j. find key_cmp j lines) (sym (tied k c.0 e))
     by false t e = refl
 
-pub taken_back : (lines : List Line) (cs : List LineChange) → AreSorted lines → with_lines (with_lines lines cs) (replaced lines cs) ≡ lines
+pub taken_back : (lines : List KeyedLine) (cs : List LineChange) → AreSorted lines → with_lines (with_lines lines cs) (lines_under lines cs) ≡ lines
 taken_back lines cs sorted =
-    same_entries key_cmp key_total key_same (with_lines (with_lines lines cs) (replaced lines cs)) lines
-    (subst T (sym (sorted_with_lines (with_lines lines cs) (replaced lines cs) (sorted_with_lines lines cs sorted))) tt) (subst T (sym sorted) tt)
-    (λ k. find_with_lines (with_lines lines cs) (replaced lines cs) k
+    same_entries key_cmp key_total key_same (with_lines (with_lines lines cs) (lines_under lines cs)) lines
+    (subst T (sym (sorted_with_lines (with_lines lines cs) (lines_under lines cs) (sorted_with_lines lines cs sorted))) tt) (subst T (sym sorted) tt)
+    (λ k. find_with_lines (with_lines lines cs) (lines_under lines cs) k
     ∙ after_replaced lines cs k (find key_cmp k (with_lines lines cs))
     ∙ by k (is_changed k cs) refl)
   where
@@ -108,16 +108,16 @@ taken_back lines cs sorted =
     by k false e = find_with_lines lines cs k ∙ after_none cs k (find key_cmp k lines) e
 
 -- what is replaced has the same keys
-below_replaced : (k : KeyTexts) (lines : List Line) (cs : List LineChange) → below_all key_cmp k (replaced lines cs) ≡ below_all key_cmp k cs
+below_replaced : (k : KeyTexts) (lines : List KeyedLine) (cs : List LineChange) → below_all key_cmp k (lines_under lines cs) ≡ below_all key_cmp k cs
 below_replaced k lines [] = refl
 below_replaced k lines (c ∷ cs) = ap (λ b. is_lt (key_cmp k c.0) && b) (below_replaced k lines cs)
 
-pub rising_replaced : (lines : List Line) (cs : List LineChange) → AreRisingChanges cs → AreRisingChanges (replaced lines cs)
+pub rising_replaced : (lines : List KeyedLine) (cs : List LineChange) → AreRisingChanges cs → AreRisingChanges (lines_under lines cs)
 rising_replaced lines cs rising = same lines cs ∙ rising
   where
-    same : (lines : List Line) (cs : List LineChange) → is_sorted key_cmp (replaced lines cs) ≡ is_sorted key_cmp cs
+    same : (lines : List KeyedLine) (cs : List LineChange) → is_sorted key_cmp (lines_under lines cs) ≡ is_sorted key_cmp cs
     same lines [] = refl
-    same lines (c ∷ cs) = ap (λ b. b && is_sorted key_cmp (replaced lines cs)) (below_replaced c.0 lines cs) ∙ ap (λ b. below_all key_cmp c.0 cs && b) (same lines cs)
+    same lines (c ∷ cs) = ap (λ b. b && is_sorted key_cmp (lines_under lines cs)) (below_replaced c.0 lines cs) ∙ ap (λ b. below_all key_cmp c.0 cs && b) (same lines cs)
 
 -- ---- a side after changes
 
@@ -127,21 +127,21 @@ filled items new k is same =
     ap (λ l. take k (new ++ l)) (drop_all (length new) items (omega (arith, same)))
     ∙ ap (take k) (append-nil new) ∙ take_all k new (omega (arith, is, same))
 
-length_replaced : (lines : List Line) (items : List Note) → length (replaced lines (notes_of items)) ≡ length items
+length_replaced : (lines : List KeyedLine) (items : List Note) → length (lines_under lines (notes_of items)) ≡ length items
 length_replaced lines [] = refl
 length_replaced lines (x ∷ items) = ap suc (length_replaced lines items)
 
 -- the walk results in a side
 pub put_side : (rows rest newer later : LinesState) (handed new items : List Note) (k : ℕ) → handed ≡ items → k ≡ length items
-    → newer.lines ≡ with_lines rows.lines (notes_of handed) → later.lines ≡ [] → notes_of new ≡ replaced rows.lines (notes_of handed)
+    → newer.lines ≡ with_lines rows.lines (notes_of handed) → later.lines ≡ [] → notes_of new ≡ lines_under rows.lines (notes_of handed)
     → length new ≡ length handed → length newer.lines ≤ length rows.lines + length handed → newer.room ≡ rows.room → later.room ≡ rest.room
     → rest.room ≤ rows.room → AreSorted rows.lines → AreRisingChanges (notes_of items)
     → length rows.lines + length items + length items ≤ rest.room
     → AreSide newer later (notes_of (take k (new ++ drop (length new) items)))
 put_side rows rest newer later handed new items k same is lines none notes len few room later_room rooms sorted rising enough =
     let count : length new ≡ length items = len ∙ ap length same in
-    let noted : notes_of (take k (new ++ drop (length new) items)) ≡ replaced rows.lines (notes_of items) =
-    ap notes_of (filled items new k is count) ∙ notes ∙ ap (λ l. replaced rows.lines (notes_of l)) same in
+    let noted : notes_of (take k (new ++ drop (length new) items)) ≡ lines_under rows.lines (notes_of items) =
+    ap notes_of (filled items new k is count) ∙ notes ∙ ap (λ l. lines_under rows.lines (notes_of l)) same in
     let n = length_replaced rows.lines items in
     let m = ap length noted in
     let h = ap length same in
@@ -156,16 +156,16 @@ put_side rows rest newer later handed new items k same is lines none notes len f
 -- its lines are changed, and its notes undo that
 pub put_changed : (now : SideState) (rows newer : LinesState) (handed new items : List Note) (k room : ℕ) → rows.lines ≡ now.lines
     → handed ≡ items → k ≡ length items → newer.lines ≡ with_lines rows.lines (notes_of handed)
-    → notes_of new ≡ replaced rows.lines (notes_of handed) → length new ≡ length handed → AreSorted rows.lines
+    → notes_of new ≡ lines_under rows.lines (notes_of handed) → length new ≡ length handed → AreSorted rows.lines
     → IsChanged now (record { lines = newer.lines; notes = notes_of (take k (new ++ drop (length new) items)); room = room }) items
 put_changed now rows newer handed new items k room same_rows same is lines notes len sorted =
     let count : length new ≡ length items = len ∙ ap length same in
-    let noted : notes_of (take k (new ++ drop (length new) items)) ≡ replaced rows.lines (notes_of items) =
-    ap notes_of (filled items new k is count) ∙ notes ∙ ap (λ l. replaced rows.lines (notes_of l)) same in
+    let noted : notes_of (take k (new ++ drop (length new) items)) ≡ lines_under rows.lines (notes_of items) =
+    ap notes_of (filled items new k is count) ∙ notes ∙ ap (λ l. lines_under rows.lines (notes_of l)) same in
     let changed : newer.lines ≡ with_lines rows.lines (notes_of items) = lines ∙ ap (λ l. with_lines rows.lines (notes_of l)) same in
     record {
       lines_are = changed ∙ ap (λ l. with_lines l (notes_of items)) same_rows;
-      back = ap (λ l. with_lines newer.lines l) noted ∙ ap (λ l. with_lines l (replaced rows.lines (notes_of items))) changed
+      back = ap (λ l. with_lines newer.lines l) noted ∙ ap (λ l. with_lines l (lines_under rows.lines (notes_of items))) changed
           ∙ taken_back rows.lines (notes_of items) sorted ∙ same_rows;
     }
 

@@ -5,35 +5,35 @@ use Rattle.std.specs.Ordering.{eq_by_cmp}
 use Rattle.lei_records.specs.Tables.{KeyTexts, key_cmp}
 use Rattle.copy_csv.specs.declared.rows.RowTexts.{RowTexts}
 use Rattle.copy_csv.specs.Sheets.{SheetRow, key}
-use Rattle.copy_forms.specs.Files.{rendered}
+use Rattle.copy_forms.specs.Files.{row_renderings}
 
 -- A key with the texts of its row.
-abbrev pub Line : Type 0
-Line = KeyTexts × RowTexts
+abbrev pub KeyedLine : Type 0
+KeyedLine = KeyTexts × RowTexts
 
 -- The line of a row.
-abbrev pub line_of : SheetRow → Line
-line_of row = (key row, rendered row)
+abbrev pub keyed_line : SheetRow → KeyedLine
+keyed_line row = (key row, row_renderings row)
 
 -- A key with the texts that its row gets, or with none if it no longer has a row.
 abbrev pub LineChange : Type 0
 LineChange = KeyTexts × Option RowTexts
 
 -- The keys of lines rise, so that none occurs twice.
-abbrev pub AreSorted : List Line → Type 0
+abbrev pub AreSorted : List KeyedLine → Type 0
 AreSorted lines = is_sorted key_cmp lines ≡ true
 
 -- Lines after a change. If the change has texts, its line replaces the line of its key or is inserted. Otherwise the
 -- line of the key is removed, if there is one.
-abbrev pub with_line : List Line → LineChange → List Line
-with_line lines (k, Some texts) = put key_cmp k texts lines
-with_line lines (k, None) = where_key key_cmp (λ other. not (eq_by_cmp key_cmp k other)) lines
+abbrev pub with_changed_line : List KeyedLine → LineChange → List KeyedLine
+with_changed_line lines (k, Some texts) = put key_cmp k texts lines
+with_changed_line lines (k, None) = where_key key_cmp (λ other. not (eq_by_cmp key_cmp k other)) lines
 
 -- Lines after changes, applied from the first to the last.
-abbrev pub with_lines : List Line → List LineChange → List Line
+abbrev pub with_lines : List KeyedLine → List LineChange → List KeyedLine
 with_lines lines [] = lines
-with_lines lines (change ∷ changes) = with_lines (with_line lines change) changes
+with_lines lines (change ∷ changes) = with_lines (with_changed_line lines change) changes
 
 -- What lines have under the keys of changes. As changes, this restores the lines.
-abbrev pub replaced : List Line → List LineChange → List LineChange
-replaced lines changes = map (λ change. (change.0, find key_cmp change.0 lines)) changes
+abbrev pub lines_under : List KeyedLine → List LineChange → List LineChange
+lines_under lines changes = map (λ change. (change.0, find key_cmp change.0 lines)) changes

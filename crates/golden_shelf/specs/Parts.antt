@@ -14,8 +14,8 @@ side_of sides Sheet.Rr = sides.rr
 side_of sides Sheet.Repex = sides.repex
 
 -- What is kept, built from its parts.
-abbrev pub kept_of : List Issue → Sides → Kept
-kept_of issues sides = record
+abbrev pub kept_parts : List Issue → Sides → Kept
+kept_parts issues sides = record
     { issues = issues; lei = sides.lei.lines; rr = sides.rr.lines; repex = sides.repex.lines }
 
 -- What was kept before the last publication: all publications but the last, and the lines with what it replaced.

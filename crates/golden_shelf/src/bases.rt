@@ -17,16 +17,16 @@ pub fn base_number(issues: &[Issue], base: Base) -> Result<u32, ShelfFault>
         return Err(ShelfFault::NothingPublished);
     };
     match base {
-        Base::Number(number) => numbered(issues.len(), number),
-        Base::LastDay => aged(issues, latest.moment, 86_400),
-        Base::LastWeek => aged(issues, latest.moment, 604_800),
-        Base::LastMonth => aged(issues, latest.moment, 2_678_400),
+        Base::Number(number) => publication_numbered(issues.len(), number),
+        Base::LastDay => by_age(issues, latest.moment, 86_400),
+        Base::LastWeek => by_age(issues, latest.moment, 604_800),
+        Base::LastMonth => by_age(issues, latest.moment, 2_678_400),
     }
 }
 
 // The publication with this number, if there are that many.
-fn numbered(count: usize, number: u32) -> Result<u32, ShelfFault>
-    ensures { result ≡ spec.numbered count number }
+fn publication_numbered(count: usize, number: u32) -> Result<u32, ShelfFault>
+    ensures { result ≡ spec.publication_numbered count number }
 {
     if 1 <= number && number as usize <= count {
         Ok(number)
@@ -36,9 +36,9 @@ fn numbered(count: usize, number: u32) -> Result<u32, ShelfFault>
 }
 
 // The last publication that is at least this many seconds older than the moment.
-fn aged(issues: &[Issue], latest: Moment, seconds: u32) -> Result<u32, ShelfFault>
+fn by_age(issues: &[Issue], latest: Moment, seconds: u32) -> Result<u32, ShelfFault>
     requires few { length issues.now ≤ 1_000_000 }
-    ensures { result ≡ spec.aged (spec.last_until (latest -ℤ pos seconds) (moments_in issues.now)) }
+    ensures { result ≡ spec.by_age (spec.last_until (latest -ℤ pos seconds) (moments_in issues.now)) }
 {
     match last_until(issues, latest, seconds) {
         Some(number) => Ok(number),

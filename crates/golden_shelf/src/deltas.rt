@@ -5,7 +5,7 @@ ghost use Rattle.copy_csv.specs.Csv.{rendered_in};
 ghost use Rattle.copy_csv.specs.Sheets as sheets;
 ghost use Rattle.copy_forms.specs.Trails.{dropped_row};
 ghost use Rattle.golden_shelf.specs.Deltas.{shown_in, texts_in};
-ghost use Rattle.golden_shelf.specs.Keys.{is_of, key_texts};
+ghost use Rattle.golden_shelf.specs.Keys.{is_key_of, key_texts};
 
 use crate::order::TextKey;
 use crate::side::Side;
@@ -22,7 +22,7 @@ pub fn changes_of<'a>(
     side: &'a Side,
     keys: &[TextKey],
 ) -> Result<Vec<TextChange<'a>>, NoMemory>
-    requires own { All (λ key. is_of sheet key.key ≡ true) keys.now }
+    requires own { All (λ key. is_key_of sheet key.key ≡ true) keys.now }
     ensures { IfOk result (λ changes. map rendered_in changes.items
         ≡ map (λ key. shown_in sheet side.now.lines (texts_in key)) keys.now) }
 {
@@ -40,18 +40,18 @@ fn change_of<'a>(
     side: &'a Side,
     key: &RowKey,
 ) -> Result<TextChange<'a>, NoMemory>
-    requires own { is_of sheet key.now ≡ true }
+    requires own { is_key_of sheet key.now ≡ true }
     ensures { IfOk result (λ change. rendered_in change ≡ shown_in sheet side.now.lines (key_texts key.now)) }
 {
     match side.texts_under(key) {
         Some(texts) => Ok(TextChange::Put(texts)),
-        None => Ok(TextChange::Drop(dropped(alloc, sheet, key)?)),
+        None => Ok(TextChange::Drop(dropped_row(alloc, sheet, key)?)),
     }
 }
 
 // The row of a dropped key: the texts of the key, followed by empty ones.
-fn dropped(alloc: Global, sheet: Sheet, key: &RowKey) -> Result<Row, NoMemory>
-    requires own { is_of sheet key.now ≡ true }
+fn dropped_row(alloc: Global, sheet: Sheet, key: &RowKey) -> Result<Row, NoMemory>
+    requires own { is_key_of sheet key.now ≡ true }
     ensures { IfOk result (λ row. row ≡ dropped_row sheet (key_texts key.now)) }
 {
     let mut texts = texts_of(alloc, key)?;

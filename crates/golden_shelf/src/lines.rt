@@ -3,7 +3,7 @@ ghost use Rattle.std.specs.Prelude.{◌≡◌, ◌<◌, ◌≤◌, ◌++◌, ◌
 ghost use Rattle.std.specs.List.{slice_get};
 ghost use Rattle.golden_shelf.specs.Keys.{key_texts};
 ghost use Rattle.golden_shelf.specs.Lines.{AreSorted};
-ghost use Rattle.golden_shelf.specs.Places.{IsPlaceOf, texts_of, with_texts};
+ghost use Rattle.golden_shelf.specs.Places.{IsLinePlace, line_texts_at, with_texts_at};
 
 use crate::keys::compare;
 use copy_csv::RowTexts;
@@ -79,7 +79,7 @@ impl Lines {
     /// The index of the line of a key, if there is one. The keys must be in rising order.
     pub fn place(&self, key: &RowKey) -> Option<usize>
         requires { AreSorted self.now.lines }
-        ensures { IsPlaceOf (key_texts key.now) self.now.lines result }
+        ensures { IsLinePlace (key_texts key.now) self.now.lines result }
     {
         let keys = self.keys.as_slice();
         let mut low = 0;
@@ -98,8 +98,8 @@ impl Lines {
     /// Swaps the texts of the line at an index with those passed in.
     pub fn exchange(&mut self, index: usize, texts: &mut RowTexts)
         requires { index < length self.old.lines }
-        ensures lines { self.new.lines ≡ with_texts self.old.lines index texts.old }
-        ensures texts { Some texts.new ≡ texts_of self.old.lines index }
+        ensures lines { self.new.lines ≡ with_texts_at self.old.lines index texts.old }
+        ensures texts { Some texts.new ≡ line_texts_at self.old.lines index }
         ensures room { self.new.room ≡ self.old.room }
     {
         mem::swap(&mut self.texts[index], texts);

@@ -2,8 +2,8 @@
 ghost use Rattle.std.specs.Prelude.{◌≡◌, ◌+◌, ◌++◌, ◌∷◌, [], IfOk, OnOk, length, map};
 ghost use Rattle.std.specs.List.{AllZip, filter};
 ghost use Rattle.register_words.specs.declared.sheets.Sheet.{Sheet as DeclaredSheet};
-ghost use Rattle.golden_shelf.specs.Keys.{is_of};
-ghost use Rattle.golden_shelf.specs.Sides.{IsNoteOf};
+ghost use Rattle.golden_shelf.specs.Keys.{is_key_of};
+ghost use Rattle.golden_shelf.specs.Sides.{NotesChange};
 
 use crate::lines::Note;
 use copy_csv::Row;
@@ -25,7 +25,7 @@ pub struct Parts {
 
 /// A change with its row rendered, if it has one.
 pub fn render(alloc: Global, change: &(RowKey, Option<Row>)) -> Result<Note, NoMemory>
-    ensures { IfOk result (λ note. IsNoteOf change.now note) }
+    ensures { IfOk result (λ note. NotesChange change.now note) }
 {
     let texts = match &change.1 {
         Some(row) => Some(row_texts(alloc, row)?),
@@ -44,7 +44,7 @@ pub fn render_all<L: Ledger, R: Threads + Sync>(
     changes: &[(RowKey, Option<Row>)],
     steps: &mut Steps<L>,
 ) -> Result<Vec<Note>, NoMemory>
-    ensures notes { IfOk result (λ notes. AllZip IsNoteOf changes.now notes.items) }
+    ensures notes { IfOk result (λ notes. AllZip NotesChange changes.now notes.items) }
     ensures steps { steps.new ≡ steps.old + length changes.now }
 {
     map_list(
@@ -52,20 +52,20 @@ pub fn render_all<L: Ledger, R: Threads + Sync>(
         alloc,
         changes,
         |change: &(RowKey, Option<Row>)| -> Result<Note, NoMemory>
-            ensures { IfOk result (λ note. IsNoteOf change.now note) }
+            ensures { IfOk result (λ note. NotesChange change.now note) }
         { render(alloc, change) },
         steps,
     )
 }
 
 /// Notes split by sheet: each is in the part of its key's sheet.
-pub fn parted(alloc: Global, notes: Vec<Note>) -> Result<Parts, NoMemory>
+pub fn split_notes(alloc: Global, notes: Vec<Note>) -> Result<Parts, NoMemory>
     ensures lei { IfOk result
-        (λ parts. parts.lei.items ≡ filter (λ note. is_of DeclaredSheet.Lei note.key) notes.items) }
+        (λ parts. parts.lei.items ≡ filter (λ note. is_key_of DeclaredSheet.Lei note.key) notes.items) }
     ensures rr { IfOk result (λ parts. parts.rr.items
-        ≡ filter (λ note. is_of DeclaredSheet.Rr note.key) notes.items) }
+        ≡ filter (λ note. is_key_of DeclaredSheet.Rr note.key) notes.items) }
     ensures repex { IfOk result
-        (λ parts. parts.repex.items ≡ filter (λ note. is_of DeclaredSheet.Repex note.key) notes.items) }
+        (λ parts. parts.repex.items ≡ filter (λ note. is_key_of DeclaredSheet.Repex note.key) notes.items) }
 {
     let mut parts = Parts {
         lei: Vec::new(alloc),
@@ -82,12 +82,12 @@ pub fn parted(alloc: Global, notes: Vec<Note>) -> Result<Parts, NoMemory>
 fn put_part(parts: &mut Parts, note: Note) -> Result<(), NoMemory>
     ensures lei { OnOk result
         (parts.new.lei.items ≡ parts.old.lei.items
-        ++ filter (λ note. is_of DeclaredSheet.Lei note.key) (note ∷ [])) }
+        ++ filter (λ note. is_key_of DeclaredSheet.Lei note.key) (note ∷ [])) }
     ensures rr { OnOk result (parts.new.rr.items
-        ≡ parts.old.rr.items ++ filter (λ note. is_of DeclaredSheet.Rr note.key) (note ∷ [])) }
+        ≡ parts.old.rr.items ++ filter (λ note. is_key_of DeclaredSheet.Rr note.key) (note ∷ [])) }
     ensures repex { OnOk result
         (parts.new.repex.items ≡ parts.old.repex.items
-        ++ filter (λ note. is_of DeclaredSheet.Repex note.key) (note ∷ [])) }
+        ++ filter (λ note. is_key_of DeclaredSheet.Repex note.key) (note ∷ [])) }
 {
     match note.key {
         RowKey::Rec(_) => parts.lei.push(note)?,

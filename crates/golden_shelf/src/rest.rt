@@ -3,7 +3,7 @@ ghost use Rattle.std.specs.Prelude.{◌≡◌, ◌<◌, ◌≤◌, ◌++◌, ◌
 ghost use Rattle.std.specs.declared.cmp.Ordering.{Ordering as Order};
 ghost use Rattle.lei_records.specs.Tables.{key_cmp};
 ghost use Rattle.golden_shelf.specs.Keys.{key_texts};
-ghost use Rattle.golden_shelf.specs.Walks.{below, first_order, onward, past, texts_at};
+ghost use Rattle.golden_shelf.specs.Walks.{below, first_order, lines_from, past, texts_under};
 
 use crate::keys::compare;
 use crate::lines::Lines;
@@ -83,7 +83,7 @@ impl Rest {
     pub fn pop_before(&mut self, key: &RowKey) -> Option<(RowKey, RowTexts)>
         ensures line { MatchOption result
             ((self.new.lines ≡ self.old.lines) × (below (key_texts key.now) self.old.lines ≡ [])
-            × (onward (key_texts key.now) self.old.lines ≡ self.old.lines))
+            × (lines_from (key_texts key.now) self.old.lines ≡ self.old.lines))
             (λ line. (self.old.lines ≡ (key_texts line.0, line.1) ∷ self.new.lines)
             × (key_cmp (key_texts key.now) (key_texts line.0) ≡ Order.Greater)) }
         ensures room { self.new.room ≡ self.old.room }
@@ -97,7 +97,7 @@ impl Rest {
 
     /// Removes the first line if it has this key, and returns its texts. Used when no line is before the key.
     pub fn pop_at(&mut self, key: &RowKey) -> Option<RowTexts>
-        ensures texts { result ≡ texts_at (key_texts key.now) self.old.lines }
+        ensures texts { result ≡ texts_under (key_texts key.now) self.old.lines }
         ensures lines { self.new.lines ≡ past (key_texts key.now) self.old.lines }
         ensures room { self.new.room ≡ self.old.room }
     {

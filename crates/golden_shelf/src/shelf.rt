@@ -5,18 +5,18 @@ ghost use Rattle.register_words.specs.declared.sheets.Sheet.{Sheet as DeclaredSh
 ghost use Rattle.copy_csv.specs.declared.rows.Change.{Change};
 ghost use Rattle.copy_csv.specs.Rows.{IsChangeOf};
 ghost use Rattle.copy_forms.specs.Files.{delta, may_be_wide, rendered_change};
-ghost use Rattle.copy_forms.specs.Trails.{Publication, Trail, copy_of, delta_between, in_order, is_wide_in};
+ghost use Rattle.copy_forms.specs.Trails.{Publication, Trail, copy_of, delta_between, is_wide_in, keys_in_order};
 ghost use Rattle.golden_shelf.specs.declared.fault.ShelfFault.{ShelfFault as DeclaredFault};
-ghost use Rattle.golden_shelf.specs.Bases.{base_in, moments_in, moments_of};
+ghost use Rattle.golden_shelf.specs.Bases.{base_in, moments_in, trail_moments};
 ghost use Rattle.golden_shelf.specs.Changes.{AreOwnChanges, ArePlain, IsIssued};
 ghost use Rattle.golden_shelf.specs.Deltas.{changed_in, shown_in};
-ghost use Rattle.golden_shelf.specs.Shelves.{Keeps, MayFollow, latest, latest_rows, lines_of, nothing_kept};
+ghost use Rattle.golden_shelf.specs.Shelves.{KeepsTrail, MayFollow, empty_shelf, latest, latest_rows, lines_of};
 
 use crate::bases::base_number;
 use crate::deltas::changes_of;
 use crate::fault::ShelfFault;
 use crate::issue::Issue;
-use crate::notes::{keys_of, parted, render_all};
+use crate::notes::{keys_of, render_all, split_notes};
 use crate::sides::Sides;
 use crate::touched::touched;
 use copy_csv::{Form, Head, Row, Sheet};
@@ -45,12 +45,12 @@ pub struct Shelf {
 impl Model for Shelf {
     ghost use Rattle.std.specs.Prelude.{◌≤◌, ◌<◌, None, Some, if◌then◌else◌, length, IsTrue};
     ghost use Rattle.golden_shelf.specs.Shelves.{ShelfState};
-    ghost use Rattle.golden_shelf.specs.Parts.{before_of, kept_of};
+    ghost use Rattle.golden_shelf.specs.Parts.{before_of, kept_parts};
 
     ghost Value = { ShelfState };
 
     ghost view = { λ s. record {
-      now = kept_of s.issues.items s.sides;
+      now = kept_parts s.issues.items s.sides;
       before = if s.undoable then Some (before_of s.issues.items s.sides) else None;
     } };
 
@@ -60,8 +60,8 @@ impl Model for Shelf {
 impl Shelf {
     /// A shelf without publications.
     pub fn new(alloc: Global) -> Result<Self, NoMemory>
-        ensures kept { IfOk result (λ shelf. shelf.now ≡ nothing_kept) }
-        ensures keeps { IfOk result (λ shelf. Keeps [] shelf.now) }
+        ensures kept { IfOk result (λ shelf. shelf.now ≡ empty_shelf) }
+        ensures keeps { IfOk result (λ shelf. KeepsTrail [] shelf.now) }
         ensures before { IfOk result (λ shelf. shelf.before ≡ None) }
     {
         Ok(Shelf {
@@ -90,9 +90,9 @@ impl Shelf {
         requires few { length self.old.now.issues < 1_000_000 }
         requires follows { MayFollow self.old.now.issues wide }
         requires plain { wide ≡ false → ArePlain changes.now }
-        ensures next { OnOk result ((trail : Trail) (next : Publication) → Keeps trail self.old.now
+        ensures next { OnOk result ((trail : Trail) (next : Publication) → KeepsTrail trail self.old.now
             → IsIssued (latest_rows trail) moment wide changes.now next
-            → Keeps (trail ++ next ∷ []) self.new.now) }
+            → KeepsTrail (trail ++ next ∷ []) self.new.now) }
         ensures before { OnOk result (self.new.before ≡ Some self.old.now) }
         ensures count { OnOk result (length self.new.now.issues ≡ length self.old.now.issues + 1) }
         ensures err { OnErr result (self.new ≡ self.old) }
@@ -103,7 +103,7 @@ impl Shelf {
         // Called for its contract: a moment is within the range of moments.
         let _ = moment.seconds();
         let notes = render_all(rt, alloc, changes, steps)?;
-        let parts = parted(alloc, notes)?;
+        let parts = split_notes(alloc, notes)?;
         let keys = keys_of(alloc, changes)?;
         self.issues.reserve(1)?;
         self.sides.make_room(&parts)?;
@@ -127,7 +127,8 @@ impl Shelf {
     /// The copy of a sheet in the latest publication, in its width, joined from texts that are kept.
     pub fn copy(&self, sheet: Sheet, form: Form) -> Result<Bytes, ShelfFault>
         ensures nothing { IsErrOf result DeclaredFault.NothingPublished ↔ (self.now.now.issues ≡ []) }
-        ensures copy { IfOk result (λ bytes. (trail : Trail) (last : Publication) → Keeps trail self.now.now
+        ensures copy { IfOk result (λ bytes. (trail : Trail) (last : Publication)
+            → KeepsTrail trail self.now.now
             → latest trail ≡ Some last → bytes ≡ copy_of (length trail) last sheet form) }
         ensures faults { IfErr result
             (λ fault. (fault ≡ DeclaredFault.NothingPublished) ⊎ (fault ≡ DeclaredFault.NoMemory)) }
@@ -158,11 +159,11 @@ impl Shelf {
     /// joined from texts that are kept. The cost is that of the keys that changed since then, of sorting them, and of
     /// the result. A refusal doesn't allocate memory.
     pub fn delta(&self, base: Base, sheet: Sheet, form: Form) -> Result<Bytes, ShelfFault>
-        ensures refused { (trail : Trail) (fault : DeclaredFault) → Keeps trail self.now.now
-            → base_in (moments_of trail) base ≡ Err fault → result ≡ Err fault }
-        ensures given { (trail : Trail) (from : ℕ) (last : Publication) → Keeps trail self.now.now
+        ensures refused { (trail : Trail) (fault : DeclaredFault) → KeepsTrail trail self.now.now
+            → base_in (trail_moments trail) base ≡ Err fault → result ≡ Err fault }
+        ensures given { (trail : Trail) (from : ℕ) (last : Publication) → KeepsTrail trail self.now.now
             → latest trail ≡ Some last
-            → base_in (moments_of trail) base ≡ Ok from
+            → base_in (trail_moments trail) base ≡ Ok from
             → MatchResult result (λ bytes. bytes ≡ delta_between trail from (length trail) last sheet form)
             (λ fault. fault ≡ DeclaredFault.NoMemory) }
         ensures faults { IfErr result (λ fault. (fault ≡ DeclaredFault.NoMemory)
@@ -178,7 +179,8 @@ impl Shelf {
     fn delta_from(&self, from: u32, sheet: Sheet, form: Form) -> Result<Bytes, ShelfFault>
         requires some { self.now.now.issues ≡ [] → ⊥ }
         requires from { from ≤ length self.now.now.issues }
-        ensures given { IfOk result (λ bytes. (trail : Trail) (last : Publication) → Keeps trail self.now.now
+        ensures given { IfOk result (λ bytes. (trail : Trail) (last : Publication)
+            → KeepsTrail trail self.now.now
             → latest trail ≡ Some last → bytes ≡ delta_between trail from (length trail) last sheet form) }
         ensures faults { IfErr result (λ fault. fault ≡ DeclaredFault.NoMemory) }
     {
@@ -191,14 +193,14 @@ impl Shelf {
             from,
         };
         let wide = self.is_wide(sheet, form);
-        match self.delta_behind(sheet, form, wide, &head) {
+        match self.delta_with_head(sheet, form, wide, &head) {
             Ok(text) => Ok(text),
             Err(NoMemory) => Err(ShelfFault::NoMemory),
         }
     }
 
     // The delta in this width, joined for the keys that changed after the publication that the head names as its base.
-    fn delta_behind(
+    fn delta_with_head(
         &self,
         sheet: Sheet,
         form: Form,
@@ -208,7 +210,7 @@ impl Shelf {
         requires { head.now.from ≤ length self.now.now.issues }
         ensures { IfOk result (λ bytes. (changes : Items Change) → All (IsChangeOf sheet) changes
             → map (shown_in sheet (lines_of self.now.now sheet))
-            (in_order (changed_in sheet (drop head.now.from self.now.now.issues)))
+            (keys_in_order (changed_in sheet (drop head.now.from self.now.now.issues)))
             ≡ map rendered_change changes → bytes ≡ delta sheet form wide head.now changes) }
     {
         let behind = &self.issues.as_slice()[head.from as usize..];
@@ -220,7 +222,8 @@ impl Shelf {
 
     // Whether the latest publication's files of this sheet and form are wide.
     fn is_wide(&self, sheet: Sheet, form: Form) -> bool
-        ensures { (trail : Trail) (last : Publication) → Keeps trail self.now.now → latest trail ≡ Some last
+        ensures { (trail : Trail) (last : Publication) → KeepsTrail trail self.now.now
+            → latest trail ≡ Some last
             → result ≡ is_wide_in last sheet form }
     {
         match self.issues.as_slice().last() {
@@ -231,11 +234,11 @@ impl Shelf {
 
     /// The numbers of records, relationships and exceptions in the latest publication.
     pub fn counts(&self) -> (u64, u64, u64)
-        ensures lei { (trail : Trail) → Keeps trail self.now.now
+        ensures lei { (trail : Trail) → KeepsTrail trail self.now.now
             → result.0 ≡ length (latest_rows trail DeclaredSheet.Lei) }
-        ensures rr { (trail : Trail) → Keeps trail self.now.now
+        ensures rr { (trail : Trail) → KeepsTrail trail self.now.now
             → result.1 ≡ length (latest_rows trail DeclaredSheet.Rr) }
-        ensures repex { (trail : Trail) → Keeps trail self.now.now
+        ensures repex { (trail : Trail) → KeepsTrail trail self.now.now
             → result.2 ≡ length (latest_rows trail DeclaredSheet.Repex) }
     {
         (
@@ -247,7 +250,7 @@ impl Shelf {
 
     /// The number and the moment of the latest publication, if there is one.
     pub fn latest(&self) -> Option<(u32, Moment)>
-        ensures latest { (trail : Trail) → Keeps trail self.now.now
+        ensures latest { (trail : Trail) → KeepsTrail trail self.now.now
             → result ≡ option_map (λ last. (length trail, last.moment)) (latest trail) }
         ensures none { (result ≡ None) ↔ (self.now.now.issues ≡ []) }
     {

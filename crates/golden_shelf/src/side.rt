@@ -4,7 +4,7 @@ ghost use Rattle.std.specs.FinMap.Entries.{find};
 ghost use Rattle.lei_records.specs.Tables.{key_cmp};
 ghost use Rattle.golden_shelf.specs.Keys.{key_texts};
 ghost use Rattle.golden_shelf.specs.Lines.{with_lines};
-ghost use Rattle.golden_shelf.specs.Sides.{AreRisingChanges, HasRoom, IsChanged, IsSame, notes_of};
+ghost use Rattle.golden_shelf.specs.Sides.{AreRisingChanges, HasRoomForChanges, IsChanged, IsSameSide, notes_of};
 
 use crate::lines::{Lines, Note};
 use crate::rest::Rest;
@@ -71,7 +71,7 @@ impl Side {
 
     /// Makes room to put this many changes and to take them back.
     pub fn make_room(&mut self, changes: usize) -> Result<(), NoMemory>
-        ensures same { IsSame self.old self.new }
+        ensures same { IsSameSide self.old self.new }
         ensures room { OnOk result (length self.old.lines + changes + changes ≤ self.new.room) }
     {
         let Some(total) = total_of(self.rows.len(), changes) else {
@@ -84,7 +84,7 @@ impl Side {
     /// Puts changes, and notes what they replace. There must be room for them.
     pub fn put(&mut self, changes: Vec<Note>)
         requires rising { AreRisingChanges (notes_of changes.items) }
-        requires room { HasRoom self.old changes.items }
+        requires room { HasRoomForChanges self.old changes.items }
         ensures { IsChanged self.old self.new changes.items }
     {
         self.notes = changes;

@@ -1,7 +1,7 @@
 //! The lines of all sheets.
 ghost use Rattle.std.specs.Prelude.{◌≡◌, [], OnOk, map};
 ghost use Rattle.golden_shelf.specs.Lines.{with_lines};
-ghost use Rattle.golden_shelf.specs.Sides.{AreRisingChanges, HasRoom, IsChanged, IsSame, notes_of};
+ghost use Rattle.golden_shelf.specs.Sides.{AreRisingChanges, HasRoomForChanges, IsChanged, IsSameSide, notes_of};
 ghost use Rattle.golden_shelf.specs.Parts.{side_of};
 
 use crate::notes::Parts;
@@ -56,12 +56,12 @@ impl Sides {
 
     /// Makes room to put changes and to take them back.
     pub fn make_room(&mut self, parts: &Parts) -> Result<(), NoMemory>
-        ensures lei { IsSame self.old.lei self.new.lei }
-        ensures rr { IsSame self.old.rr self.new.rr }
-        ensures repex { IsSame self.old.repex self.new.repex }
-        ensures lei_room { OnOk result (HasRoom self.new.lei parts.now.lei.items) }
-        ensures rr_room { OnOk result (HasRoom self.new.rr parts.now.rr.items) }
-        ensures repex_room { OnOk result (HasRoom self.new.repex parts.now.repex.items) }
+        ensures lei { IsSameSide self.old.lei self.new.lei }
+        ensures rr { IsSameSide self.old.rr self.new.rr }
+        ensures repex { IsSameSide self.old.repex self.new.repex }
+        ensures lei_room { OnOk result (HasRoomForChanges self.new.lei parts.now.lei.items) }
+        ensures rr_room { OnOk result (HasRoomForChanges self.new.rr parts.now.rr.items) }
+        ensures repex_room { OnOk result (HasRoomForChanges self.new.repex parts.now.repex.items) }
     {
         self.lei.make_room(parts.lei.len())?;
         self.rr.make_room(parts.rr.len())?;
@@ -73,9 +73,9 @@ impl Sides {
         requires lei_rising { AreRisingChanges (notes_of parts.lei.items) }
         requires rr_rising { AreRisingChanges (notes_of parts.rr.items) }
         requires repex_rising { AreRisingChanges (notes_of parts.repex.items) }
-        requires lei_room { HasRoom self.old.lei parts.lei.items }
-        requires rr_room { HasRoom self.old.rr parts.rr.items }
-        requires repex_room { HasRoom self.old.repex parts.repex.items }
+        requires lei_room { HasRoomForChanges self.old.lei parts.lei.items }
+        requires rr_room { HasRoomForChanges self.old.rr parts.rr.items }
+        requires repex_room { HasRoomForChanges self.old.repex parts.repex.items }
         ensures lei { IsChanged self.old.lei self.new.lei parts.lei.items }
         ensures rr { IsChanged self.old.rr self.new.rr parts.rr.items }
         ensures repex { IsChanged self.old.repex self.new.repex parts.repex.items }

@@ -1,9 +1,9 @@
 //! The keys that publications changed, in order.
 ghost use Rattle.std.specs.Prelude.{◌≡◌, ◌++◌, ◌∷◌, [], true, IfOk, OnOk, map};
 ghost use Rattle.std.specs.List.{All, filter};
-ghost use Rattle.copy_forms.specs.Trails.{in_order};
+ghost use Rattle.copy_forms.specs.Trails.{keys_in_order};
 ghost use Rattle.golden_shelf.specs.Deltas.{changed_in, texts_in};
-ghost use Rattle.golden_shelf.specs.Keys.{is_of as is_key_of, key_texts};
+ghost use Rattle.golden_shelf.specs.Keys.{is_key_of as is_key_of, key_texts};
 
 use crate::issue::Issue;
 use crate::order::TextKey;
@@ -14,7 +14,8 @@ use std::alloc::Global;
 
 /// The keys of a sheet that these publications changed, in the order of their texts, each once.
 pub fn touched(alloc: Global, issues: &[Issue], sheet: Sheet) -> Result<Vec<TextKey>, NoMemory>
-    ensures keys { IfOk result (λ keys. map texts_in keys.items ≡ in_order (changed_in sheet issues.now)) }
+    ensures keys { IfOk result
+        (λ keys. map texts_in keys.items ≡ keys_in_order (changed_in sheet issues.now)) }
     ensures own { IfOk result (λ keys. All (λ key. is_key_of sheet key.key ≡ true) keys.items) }
 {
     let mut keys = all_touched(alloc, issues, sheet)?;

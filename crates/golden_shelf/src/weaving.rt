@@ -1,9 +1,9 @@
 //! The walk over the lines of a sheet and their changes.
 ghost use Rattle.std.specs.Prelude.{◌≡◌, ◌+◌, ◌≤◌, ◌<◌, ◌++◌, ◌∷◌, [], length};
 ghost use Rattle.golden_shelf.specs.Keys.{key_texts};
-ghost use Rattle.golden_shelf.specs.Lines.{AreSorted, replaced, with_lines};
-ghost use Rattle.golden_shelf.specs.Sides.{AreRisingChanges, note_of, notes_of};
-ghost use Rattle.golden_shelf.specs.Walks.{below, line_for, onward, past, texts_at};
+ghost use Rattle.golden_shelf.specs.Lines.{AreSorted, lines_under, with_lines};
+ghost use Rattle.golden_shelf.specs.Sides.{AreRisingChanges, note_change, notes_of};
+ghost use Rattle.golden_shelf.specs.Walks.{below, line_for, lines_from, past, texts_under};
 
 use crate::lines::{Lines, Note};
 use crate::replacing::{are_there, replace_all};
@@ -21,7 +21,7 @@ pub fn weave(rows: &mut Lines, rest: &mut Rest, notes: &mut [Note])
     requires rooms { rest.old.room ≤ rows.old.room }
     ensures rows { rows.new.lines ≡ with_lines rows.old.lines (notes_of notes.old) }
     ensures rest { rest.new.lines ≡ [] }
-    ensures notes { notes_of notes.new ≡ replaced rows.old.lines (notes_of notes.old) }
+    ensures notes { notes_of notes.new ≡ lines_under rows.old.lines (notes_of notes.old) }
     ensures len { length notes.new ≡ length notes.old }
     ensures few { length rows.new.lines ≤ length rows.old.lines + length notes.old }
     ensures rows_room { rows.new.room ≡ rows.old.room }
@@ -43,7 +43,7 @@ fn weave_all(rows: &mut Lines, rest: &mut Rest, notes: &mut [Note])
     requires rooms { rest.old.room ≤ rows.old.room }
     ensures rows { rows.new.lines ≡ with_lines rows.old.lines (notes_of notes.old) }
     ensures rest { rest.new.lines ≡ [] }
-    ensures notes { notes_of notes.new ≡ replaced rows.old.lines (notes_of notes.old) }
+    ensures notes { notes_of notes.new ≡ lines_under rows.old.lines (notes_of notes.old) }
     ensures len { length notes.new ≡ length notes.old }
     ensures few { length rows.new.lines ≤ length rows.old.lines + length notes.old }
     ensures rows_room { rows.new.room ≡ rows.old.room }
@@ -63,12 +63,13 @@ fn weave_all(rows: &mut Lines, rest: &mut Rest, notes: &mut [Note])
 fn weave_one(rows: &mut Lines, rest: &mut Rest, note: &mut Note)
     requires { length rows.old.lines + length rest.old.lines < rows.old.room }
     ensures rows { rows.new.lines
-        ≡ rows.old.lines ++ (below (key_texts note.old.key) rest.old.lines ++ line_for (note_of note.old)) }
+        ≡ rows.old.lines ++ (below (key_texts note.old.key) rest.old.lines
+        ++ line_for (note_change note.old)) }
     ensures rest { rest.new.lines
-        ≡ past (key_texts note.old.key) (onward (key_texts note.old.key) rest.old.lines) }
+        ≡ past (key_texts note.old.key) (lines_from (key_texts note.old.key) rest.old.lines) }
     ensures key { note.new.key ≡ note.old.key }
     ensures texts { note.new.texts
-        ≡ texts_at (key_texts note.old.key) (onward (key_texts note.old.key) rest.old.lines) }
+        ≡ texts_under (key_texts note.old.key) (lines_from (key_texts note.old.key) rest.old.lines) }
     ensures len { length rows.new.lines + length rest.new.lines ≤ length rows.old.lines + length
         rest.old.lines + 1 }
     ensures rows_room { rows.new.room ≡ rows.old.room }
@@ -95,7 +96,7 @@ fn lower(rows: &mut Lines, rest: &mut Rest)
 fn raise_before(rows: &mut Lines, rest: &mut Rest, key: &RowKey)
     requires { length rows.old.lines + length rest.old.lines ≤ rows.old.room }
     ensures rows { rows.new.lines ≡ rows.old.lines ++ below (key_texts key.now) rest.old.lines }
-    ensures rest { rest.new.lines ≡ onward (key_texts key.now) rest.old.lines }
+    ensures rest { rest.new.lines ≡ lines_from (key_texts key.now) rest.old.lines }
     ensures len { length rows.new.lines + length rest.new.lines
         ≡ length rows.old.lines + length rest.old.lines }
     ensures rows_room { rows.new.room ≡ rows.old.room }
@@ -122,10 +123,10 @@ fn raise_all(rows: &mut Lines, rest: &mut Rest)
 // Appends the line of a note, if it has texts. The note gets the texts of the line of its key instead, if that waits.
 fn exchange(rows: &mut Lines, rest: &mut Rest, note: &mut Note)
     requires { length rows.old.lines < rows.old.room }
-    ensures rows { rows.new.lines ≡ rows.old.lines ++ line_for (note_of note.old) }
+    ensures rows { rows.new.lines ≡ rows.old.lines ++ line_for (note_change note.old) }
     ensures rest { rest.new.lines ≡ past (key_texts note.old.key) rest.old.lines }
     ensures key { note.new.key ≡ note.old.key }
-    ensures texts { note.new.texts ≡ texts_at (key_texts note.old.key) rest.old.lines }
+    ensures texts { note.new.texts ≡ texts_under (key_texts note.old.key) rest.old.lines }
     ensures len { length rows.new.lines + length rest.new.lines ≤ length rows.old.lines + length
         rest.old.lines + 1 }
     ensures rows_room { rows.new.room ≡ rows.old.room }

@@ -10,11 +10,11 @@ use Rattle.lei_code.specs.Texts.{Lei}
 use Rattle.copy_csv.specs.Sheets.{SheetRow}
 use Rattle.group_reports.specs.declared.arcs.Arc.{Arc}
 use Rattle.group_reports.specs.declared.kinds.LinkKind.{LinkKind}
-use Rattle.group_reports.specs.Arcs.{AreFirstEnds, IsWithin, first_end, is_of, link_at}
+use Rattle.group_reports.specs.Arcs.{AreFirstEnds, HasPlacesBelow, first_end, is_wanted_kind, link_at}
 use Rattle.group_reports.specs.Links.{Link, link_of}
-use Rattle.group_reports.specs.Places.{AreInOrder, Finds, IsBelow, at, at_some, ends_of, leis_of, step}
+use Rattle.group_reports.specs.Places.{AreSortedLeis, FindsEach, IsBelow, at, at_some, ends_of, leis_of, step_up}
 use Rattle.group_reports.proofs.ChainLemmas.{lei_or}
-use Rattle.group_reports.proofs.ListLemmas.{get_or-map, has, in_order-has, own_lei}
+use Rattle.group_reports.proofs.ListLemmas.{get_or-map, has, leis_in_order-has, own_lei}
 use Rattle.group_reports.proofs.PlaceLemmas.{eq_places}
 
 -- ---- the LEIs of links
@@ -89,7 +89,7 @@ pub row_start : (rows : List SheetRow) (leis : List Lei) (i : ℕ) (row : SheetR
     → leis ≡ leis_of (map link_of rows) → has leis (link_of row).start ≡ true
 row_start rows leis i row within here are =
     ap (λ l. has l (link_of row).start) are
-    ∙ (in_order-has (flat_map ends_of (map link_of rows)) (link_of row).start
+    ∙ (leis_in_order-has (flat_map ends_of (map link_of rows)) (link_of row).start
     ∙ (ap (λ l. has (flat_map ends_of (map link_of rows)) l.start) (sym (row_at rows i row within here))
     ∙ start_among (map link_of rows) i (link_of row) (subst (λ n. i < n) (sym (length-map rows link_of)) within)))
 
@@ -97,7 +97,7 @@ pub row_end : (rows : List SheetRow) (leis : List Lei) (i : ℕ) (row : SheetRow
     → leis ≡ leis_of (map link_of rows) → has leis (link_of row).end ≡ true
 row_end rows leis i row within here are =
     ap (λ l. has l (link_of row).end) are
-    ∙ (in_order-has (flat_map ends_of (map link_of rows)) (link_of row).end
+    ∙ (leis_in_order-has (flat_map ends_of (map link_of rows)) (link_of row).end
     ∙ (ap (λ l. has (flat_map ends_of (map link_of rows)) l.end) (sym (row_at rows i row within here))
     ∙ end_among (map link_of rows) i (link_of row) (subst (λ n. i < n) (sym (length-map rows link_of)) within)))
 
@@ -119,50 +119,50 @@ none_known test links lei unknown = by (end_of test links lei) refl
     by : (o : Option Lei) → end_of test links lei ≡ o → o ≡ None
     by None is = refl
     by (Some next) is =
-        absurd (false≢true (sym unknown ∙ (in_order-has (flat_map ends_of links) lei ∙ (ends_known test links lei next is).0)))
+        absurd (false≢true (sym unknown ∙ (leis_in_order-has (flat_map ends_of links) lei ∙ (ends_known test links lei next is).0)))
 
 -- ---- first ends
 
-module _ (leis : List Lei) (order : AreInOrder leis) (kind : LinkKind) where
-  first_is : (arcs : List Arc) (place : ℕ) → All (IsWithin (length leis)) arcs → place < length leis
-      → at_some leis (first_end arcs kind place) ≡ end_of (is_of kind) (map (link_at leis) arcs) (at leis place)
+module _ (leis : List Lei) (order : AreSortedLeis leis) (kind : LinkKind) where
+  first_is : (arcs : List Arc) (place : ℕ) → All (HasPlacesBelow (length leis)) arcs → place < length leis
+      → at_some leis (first_end arcs kind place) ≡ end_of (is_wanted_kind kind) (map (link_at leis) arcs) (at leis place)
   first_is [] place within inside = refl
   first_is (arc ∷ arcs) place within inside =
-      by (first_is arcs place (All-tail (IsWithin (length leis)) arc arcs within) inside) (is_of kind arc.kind && place == arc.start)
-      ∙ ap (λ b. option_map (λ (l : Link). l.end) (cond b (Some (link_at leis arc)) (find (λ l. is_of kind l.kind && bytes_eq (at leis place) l.start) (map (link_at leis) arcs))))
-      (ap (λ b. is_of kind arc.kind && b) (sym (eq_places leis order place arc.start inside (All-head (IsWithin (length leis)) arc arcs within).0)))
+      by (first_is arcs place (All-tail (HasPlacesBelow (length leis)) arc arcs within) inside) (is_wanted_kind kind arc.kind && place == arc.start)
+      ∙ ap (λ b. option_map (λ (l : Link). l.end) (cond b (Some (link_at leis arc)) (find (λ l. is_wanted_kind kind l.kind && bytes_eq (at leis place) l.start) (map (link_at leis) arcs))))
+      (ap (λ b. is_wanted_kind kind arc.kind && b) (sym (eq_places leis order place arc.start inside (All-head (HasPlacesBelow (length leis)) arc arcs within).0)))
     where
-      by : at_some leis (first_end arcs kind place) ≡ end_of (is_of kind) (map (link_at leis) arcs) (at leis place) → (b : Bool)
-          → at_some leis (option_map (λ (a : Arc). a.end) (cond b (Some arc) (find (λ a. is_of kind a.kind && place == a.start) arcs)))
-          ≡ option_map (λ (l : Link). l.end) (cond b (Some (link_at leis arc)) (find (λ l. is_of kind l.kind && bytes_eq (at leis place) l.start) (map (link_at leis) arcs)))
+      by : at_some leis (first_end arcs kind place) ≡ end_of (is_wanted_kind kind) (map (link_at leis) arcs) (at leis place) → (b : Bool)
+          → at_some leis (option_map (λ (a : Arc). a.end) (cond b (Some arc) (find (λ a. is_wanted_kind kind a.kind && place == a.start) arcs)))
+          ≡ option_map (λ (l : Link). l.end) (cond b (Some (link_at leis arc)) (find (λ l. is_wanted_kind kind l.kind && bytes_eq (at leis place) l.start) (map (link_at leis) arcs)))
       by rest true = refl
       by rest false = rest
 
-first_below : (count : ℕ) (kind : LinkKind) (arcs : List Arc) (place : ℕ) → All (IsWithin count) arcs → IsBelow count (first_end arcs kind place)
+first_below : (count : ℕ) (kind : LinkKind) (arcs : List Arc) (place : ℕ) → All (HasPlacesBelow count) arcs → IsBelow count (first_end arcs kind place)
 first_below count kind [] place within = tt
 first_below count kind (arc ∷ arcs) place within =
-    by (first_below count kind arcs place (All-tail (IsWithin count) arc arcs within)) (is_of kind arc.kind && place == arc.start)
+    by (first_below count kind arcs place (All-tail (HasPlacesBelow count) arc arcs within)) (is_wanted_kind kind arc.kind && place == arc.start)
   where
     by : IsBelow count (first_end arcs kind place) → (b : Bool)
-        → IsBelow count (option_map (λ (a : Arc). a.end) (cond b (Some arc) (find (λ a. is_of kind a.kind && place == a.start) arcs)))
-    by rest true = (All-head (IsWithin count) arc arcs within).1
+        → IsBelow count (option_map (λ (a : Arc). a.end) (cond b (Some arc) (find (λ a. is_wanted_kind kind a.kind && place == a.start) arcs)))
+    by rest true = (All-head (HasPlacesBelow count) arc arcs within).1
     by rest false = rest
 
-pub ends_within : (count : ℕ) (kind : LinkKind) (arcs : List Arc) (ends : List (Option ℕ)) → All (IsWithin count) arcs
-    → AreFirstEnds count arcs kind ends → (place : ℕ) → IsBelow (length ends) (step ends place)
+pub ends_within : (count : ℕ) (kind : LinkKind) (arcs : List Arc) (ends : List (Option ℕ)) → All (HasPlacesBelow count) arcs
+    → AreFirstEnds count arcs kind ends → (place : ℕ) → IsBelow (length ends) (step_up ends place)
 ends_within count kind arcs ends within are place =
-    subst (λ n. IsBelow n (step ends place)) (sym are.counted)
+    subst (λ n. IsBelow n (step_up ends place)) (sym are.counted)
     (subst (IsBelow count) (sym (are.each place)) (first_below count kind arcs place within))
 
-pub finds_ends : (leis : List Lei) → AreInOrder leis → (kind : LinkKind) (arcs : List Arc) (links : List Link) (ends : List (Option ℕ))
-    → All (IsWithin (length leis)) arcs → map (link_at leis) arcs ≡ links → AreFirstEnds (length leis) arcs kind ends
-    → Finds leis ends (end_of (is_of kind) links)
+pub finds_ends : (leis : List Lei) → AreSortedLeis leis → (kind : LinkKind) (arcs : List Arc) (links : List Link) (ends : List (Option ℕ))
+    → All (HasPlacesBelow (length leis)) arcs → map (link_at leis) arcs ≡ links → AreFirstEnds (length leis) arcs kind ends
+    → FindsEach leis ends (end_of (is_wanted_kind kind) links)
 finds_ends leis order kind arcs links ends within are ends_are = record {
   counted = ends_are.counted;
   within = ends_within (length leis) kind arcs ends within ends_are;
   each = λ place inside.
       ap (at_some leis) (ends_are.each place)
-      ∙ (first_is leis order kind arcs place within inside ∙ ap (λ l. end_of (is_of kind) l (at leis place)) are);
+      ∙ (first_is leis order kind arcs place within inside ∙ ap (λ l. end_of (is_wanted_kind kind) l (at leis place)) are);
 }
 
 -- ---- a loop over arcs

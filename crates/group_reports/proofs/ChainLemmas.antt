@@ -9,9 +9,9 @@ use Rattle.std.proofs.lemmas.Map.Made.{is_member-Decides, length-le_from_is_memb
 use Rattle.std.proofs.lemmas.Slice.Eq.{bytes_eq-Decides}
 use Rattle.lei_code.specs.Texts.{Lei}
 use Rattle.group_reports.specs.Links.{Link}
-use Rattle.group_reports.specs.Groups.{Leads, depth, is_depth, is_member_at, is_this, members, members_at, starts, up}
-use Rattle.group_reports.specs.Links.{direct, is_direct}
-use Rattle.group_reports.proofs.ListLemmas.{all-distinct, all_apart, filter-distinct, filter-has, finds, found, has, has-filter, in_all, in_one, in_order-distinct, in_order-has, lei_laws, own_lei, same_lei}
+use Rattle.group_reports.specs.Groups.{LeadsUpTo, depth, entity_above, is_depth, is_member_at, is_this, members, members_at, starts}
+use Rattle.group_reports.specs.Links.{direct, is_direct_link}
+use Rattle.group_reports.proofs.ListLemmas.{all-distinct, all_apart, filter-distinct, filter-has, finds, found, has, has-filter, in_all, in_one, lei_laws, leis_in_order-distinct, leis_in_order-has, own_lei, same_lei}
 
 abbrev pub lei_or : Lei → Option Lei → Lei
 lei_or lei None = lei
@@ -27,24 +27,24 @@ pub is-this : (root : Lei) (o : Option Lei) → o ≡ Some root → is_this root
 is-this root o e = ap (is_this root) e ∙ own_lei root
 
 pub starts-has : (links : List Link) (lei : Lei) → has (starts links) lei ≡ has (map (λ link. link.start) links) lei
-starts-has links lei = in_order-has (map (λ link. link.start) links) lei
+starts-has links lei = leis_in_order-has (map (λ link. link.start) links) lei
 
 -- an entity with a direct parent is a start
 pub direct-start : (links : List Link) (lei next : Lei) → direct links lei ≡ Some next → has (map (λ link. link.start) links) lei ≡ true
 direct-start [] lei next e = absurd cc
-direct-start (link ∷ links) lei next e = by (λ is. direct-start links lei next is) (is_direct link.kind && bytes_eq lei link.start) refl e
+direct-start (link ∷ links) lei next e = by (λ is. direct-start links lei next is) (is_direct_link link.kind && bytes_eq lei link.start) refl e
   where
-    by : (direct links lei ≡ Some next → has (map (λ l. l.start) links) lei ≡ true) → (b : Bool) → (is_direct link.kind && bytes_eq lei link.start) ≡ b
-        → option_map (λ (l : Link). l.end) (cond b (Some link) (find (λ l. is_direct l.kind && bytes_eq lei l.start) links)) ≡ Some next
+    by : (direct links lei ≡ Some next → has (map (λ l. l.start) links) lei ≡ true) → (b : Bool) → (is_direct_link link.kind && bytes_eq lei link.start) ≡ b
+        → option_map (λ (l : Link). l.end) (cond b (Some link) (find (λ l. is_direct_link l.kind && bytes_eq lei l.start) links)) ≡ Some next
         → has (map (λ l. l.start) (link ∷ links)) lei ≡ true
     by others true is e =
-        or_left (bytes_eq lei link.start) (has (map (λ l. l.start) links) lei) (and_parts (is_direct link.kind) (bytes_eq lei link.start) is).1
+        or_left (bytes_eq lei link.start) (has (map (λ l. l.start) links) lei) (and_parts (is_direct_link link.kind) (bytes_eq lei link.start) is).1
     by others false is e = or_right (bytes_eq lei link.start) (has (map (λ l. l.start) links) lei) (others e)
 
 -- ---- a walk up, from its first step on
 
 module _ (links : List Link) where
-  pub up-first : (lei : Lei) (k : ℕ) → up links lei (suc k) ≡ option_and_then (λ next. up links next k) (direct links lei)
+  pub up-first : (lei : Lei) (k : ℕ) → entity_above links lei (suc k) ≡ option_and_then (λ next. entity_above links next k) (direct links lei)
   up-first lei zero = same (direct links lei)
     where
       same : (o : Option Lei) → o ≡ option_and_then (λ next. Some next) o
@@ -52,8 +52,8 @@ module _ (links : List Link) where
       same (Some x) = refl
   up-first lei (suc k) = ap (option_and_then (direct links)) (up-first lei k) ∙ over (direct links lei)
     where
-      over : (o : Option Lei) → option_and_then (direct links) (option_and_then (λ next. up links next k) o)
-          ≡ option_and_then (λ next. up links next (suc k)) o
+      over : (o : Option Lei) → option_and_then (direct links) (option_and_then (λ next. entity_above links next k) o)
+          ≡ option_and_then (λ next. entity_above links next (suc k)) o
       over None = refl
       over (Some x) = refl
 
@@ -61,12 +61,12 @@ module _ (links : List Link) where
   pub record Starts (lei root : Lei) (k : ℕ) : Type 0 where
     pub next : Lei
     pub step : direct links lei ≡ Some next
-    pub rest : up links next k ≡ Some root
+    pub rest : entity_above links next k ≡ Some root
 
-  pub starts_with : (lei root : Lei) (k : ℕ) → up links lei (suc k) ≡ Some root → Starts lei root k
+  pub starts_with : (lei root : Lei) (k : ℕ) → entity_above links lei (suc k) ≡ Some root → Starts lei root k
   starts_with lei root k e = by (direct links lei) refl (sym (up-first lei k) ∙ e)
     where
-      by : (o : Option Lei) → direct links lei ≡ o → option_and_then (λ next. up links next k) o ≡ Some root → Starts lei root k
+      by : (o : Option Lei) → direct links lei ≡ o → option_and_then (λ next. entity_above links next k) o ≡ Some root → Starts lei root k
       by None is e = absurd cc
       by (Some next) is e = record { next = next; step = is; rest = e }
 
@@ -88,9 +88,9 @@ module _ (links : List Link) where
       pub left : ℕ
       pub some : 1 ≤ left
       pub few : left ≤ k
-      pub leads : up links y left ≡ Some root
+      pub leads : entity_above links y left ≡ Some root
 
-    on_path : (k : ℕ) (lei y : Lei) → up links lei k ≡ Some root → has (path k lei) y ≡ true → OnPath k y
+    on_path : (k : ℕ) (lei y : Lei) → entity_above links lei k ≡ Some root → has (path k lei) y ≡ true → OnPath k y
     on_path zero lei y e at = absurd (false≢true at)
     on_path (suc k) lei y e at =
         by (λ later. on_path k (starts_with lei root k e).next y (starts_with lei root k e).rest later)
@@ -103,18 +103,18 @@ module _ (links : List Link) where
           left = suc k;
           some = omega arith;
           few = omega arith;
-          leads = subst (λ x. up links x (suc k) ≡ Some root) (sym (same_lei y lei same)) e;
+          leads = subst (λ x. entity_above links x (suc k) ≡ Some root) (sym (same_lei y lei same)) e;
         }
         by others (inr later) =
             let few : (others later).left ≤ k = (others later).few in
             record { left = (others later).left; some = (others later).some; few = omega (arith, few); leads = (others later).leads }
 
     -- each entity of a path is a start
-    path-starts : (k : ℕ) (lei y : Lei) → up links lei k ≡ Some root → has (path k lei) y ≡ true
+    path-starts : (k : ℕ) (lei y : Lei) → entity_above links lei k ≡ Some root → has (path k lei) y ≡ true
         → has (map (λ link. link.start) links) y ≡ true
     path-starts k lei y e at = by (on_path k lei y e at)
       where
-        from_first : (left : ℕ) → 1 ≤ left → up links y left ≡ Some root → has (map (λ link. link.start) links) y ≡ true
+        from_first : (left : ℕ) → 1 ≤ left → entity_above links y left ≡ Some root → has (map (λ link. link.start) links) y ≡ true
         from_first zero some leads = absurd (omega (arith, some))
         from_first (suc left) some leads =
             let first = starts_with y root left leads in direct-start links y first.next first.step
@@ -124,15 +124,15 @@ module _ (links : List Link) where
 
     -- the walk leads to the root in this many steps, and not in fewer
     pub record IsLeast (lei : Lei) (k : ℕ) : Type 0 where
-      pub leads : up links lei k ≡ Some root
-      pub first : (j : ℕ) → j < k → up links lei j ≡ Some root → ⊥
+      pub leads : entity_above links lei k ≡ Some root
+      pub first : (j : ℕ) → j < k → entity_above links lei j ≡ Some root → ⊥
 
-    pub least-next : (lei next : Lei) (k : ℕ) → IsLeast lei (suc k) → direct links lei ≡ Some next → up links next k ≡ Some root → IsLeast next k
+    pub least-next : (lei next : Lei) (k : ℕ) → IsLeast lei (suc k) → direct links lei ≡ Some next → entity_above links next k ≡ Some root → IsLeast next k
     least-next lei next k least step rest = record {
       leads = rest;
       first = λ j before e.
           least.first (suc j) (omega (arith, before))
-          (up-first lei j ∙ (ap (option_and_then (λ x. up links x j)) step ∙ e));
+          (up-first lei j ∙ (ap (option_and_then (λ x. entity_above links x j)) step ∙ e));
     }
 
     path-distinct : (k : ℕ) (lei : Lei) → IsLeast lei k → IsDistinct bytes_eq (path k lei)
@@ -166,17 +166,17 @@ module _ (links : List Link) where
       pub is : IsLeast lei steps
 
     abbrev pub leads : Lei → ℕ → Bool
-    leads lei k = is_this root (up links lei k)
+    leads lei k = is_this root (entity_above links lei k)
 
-    pub some_least : (lei : Lei) (k : ℕ) → up links lei k ≡ Some root → Least lei
+    pub some_least : (lei : Lei) (k : ℕ) → entity_above links lei k ≡ Some root → Least lei
     some_least lei k e =
-        let at = finds (leads lei) 0 (suc k) k (omega arith) (omega arith) (is-this root (up links lei k) e) in
+        let at = finds (leads lei) 0 (suc k) k (omega arith) (omega arith) (is-this root (entity_above links lei k) e) in
         let least = found (leads lei) 0 (suc k) at.number at.is in
         record {
           steps = at.number;
           is = record {
-            leads = this-is root (up links lei at.number) least.passes;
-            first = λ j before is. absurd (false≢true (sym (least.first j (omega arith) before) ∙ is-this root (up links lei j) is));
+            leads = this-is root (entity_above links lei at.number) least.passes;
+            first = λ j before is. absurd (false≢true (sym (least.first j (omega arith) before) ∙ is-this root (entity_above links lei j) is));
           };
         }
 
@@ -198,17 +198,17 @@ module _ (links : List Link) where
         by true is = absurd (false≢true is)
         by false is = refl
 
-    member-leads : (lei : Lei) → has (members links root) lei ≡ true → Leads links lei root
+    member-leads : (lei : Lei) → has (members links root) lei ≡ true → LeadsUpTo links lei root
     member-leads lei at =
         let one = in_one (members_at links root) 1 (length links) lei at in
         let is = found (leads lei) 1 (length links) one.number (member-is one.number lei one.at).1 in
-        (one.number, this-is root (up links lei one.number) is.passes)
+        (one.number, this-is root (entity_above links lei one.number) is.passes)
 
     least-member : (lei : Lei) → lei ≢ root → (k : ℕ) → IsLeast lei k → has (members links root) lei ≡ true
     least-member lei other zero least = absurd (other (ap (lei_or root) least.leads))
     least-member lei other (suc k) least =
         let few : suc k ≤ length links = least-few (suc k) lei least in
-        let at = finds (leads lei) 1 (length links) (suc k) (omega arith) (omega (arith, few)) (is-this root (up links lei (suc k)) least.leads) in
+        let at = finds (leads lei) 1 (length links) (suc k) (omega arith) (omega (arith, few)) (is-this root (entity_above links lei (suc k)) least.leads) in
         let is = found (leads lei) 1 (length links) at.number at.is in
         let first = starts_with lei root k least.leads in
         in_all (members_at links root) 1 (length links) at.number lei is.low is.high
@@ -225,7 +225,7 @@ module _ (links : List Link) where
         apart (inl same) = absurd (other (sym (same_lei root lei same)))
         apart (inr isnt) = isnt
 
-    pub members_lead : (lei : Lei) → lei ≢ root → Contains (members links root) lei ↔ Leads links lei root
+    pub members_lead : (lei : Lei) → lei ≢ root → Contains (members links root) lei ↔ LeadsUpTo links lei root
     members_lead lei other = (
       λ at. member-leads lei ((is_member-Decides bytes_eq-Decides (members links root) lei).1 at),
       λ chain. let least = some_least lei chain.0 chain.1 in
@@ -240,5 +240,5 @@ module _ (links : List Link) where
     pub members_once : IsDistinct bytes_eq (members links root)
     members_once =
         all-distinct (members_at links root) (depth links root) (λ d y at. (member-is d y at).1)
-        (λ d. filter-distinct (is_member_at links root d) (starts links) (in_order-distinct (map (λ link. link.start) links)))
+        (λ d. filter-distinct (is_member_at links root d) (starts links) (leis_in_order-distinct (map (λ link. link.start) links)))
         1 (length links)

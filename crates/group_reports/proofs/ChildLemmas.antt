@@ -6,7 +6,7 @@ use Rattle.std.specs.Ordering.{nat_cmp}
 use Rattle.std.proofs.Common.{refl, sym, ap, subst, ◌∙◌, ◌⊎◌, inl, inr, arith, leb, replicate, set}
 use Rattle.std.proofs.lemmas.Bool.{cases_Bool, cases_eq, cases_lt, eq-eqb, eqb-true, false≢true, le-leb, lt-leb, ne_eqb, not-false}
 use Rattle.std.proofs.lemmas.List.{get_or-set_other, get_or-set_same, get_or_past}
-use Rattle.group_reports.specs.Places.{AreBelow, FindsChildren, child_from, has_place, has_some, is_at, is_child, step}
+use Rattle.group_reports.specs.Places.{AreBelow, FindsChildren, child_from, has_place, has_some, is_at, is_child, step_up}
 use Rattle.group_reports.proofs.ListLemmas.{FoundAt, found}
 use Rattle.group_reports.proofs.PlaceLemmas.{put_place}
 
@@ -18,7 +18,7 @@ pub at-is : (parent : ℕ) (o : Option ℕ) → is_at parent o ≡ true → o �
 at-is parent None is = absurd (false≢true is)
 at-is parent (Some other) is = ap Some (eqb-true other parent is)
 
-none_in : (n place : ℕ) → step (replicate n None) place ≡ None
+none_in : (n place : ℕ) → step_up (replicate n None) place ≡ None
 none_in zero place = refl
 none_in (suc n) zero = refl
 none_in (suc n) (suc place) = none_in n place
@@ -57,8 +57,8 @@ module _ (parents : List (Option ℕ)) where
   pub record LinkedFrom (child : ℕ) (firsts nexts : List (Option ℕ)) : Type 0 where
     pub first_count : length firsts ≡ length parents
     pub next_count : length nexts ≡ length parents
-    pub first : (parent : ℕ) → step firsts parent ≡ child_from parents parent child
-    pub next : (parent other : ℕ) → child ≤ other → step parents other ≡ Some parent → step nexts other ≡ child_from parents parent (other + 1)
+    pub first : (parent : ℕ) → step_up firsts parent ≡ child_from parents parent child
+    pub next : (parent other : ℕ) → child ≤ other → step_up parents other ≡ Some parent → step_up nexts other ≡ child_from parents parent (other + 1)
 
   pub linked_none : (child : ℕ) (firsts nexts : List (Option ℕ)) → child ≡ length parents → firsts ≡ replicate child None
       → nexts ≡ replicate child None → length firsts ≡ child → length nexts ≡ child → LinkedFrom child firsts nexts
@@ -66,30 +66,30 @@ module _ (parents : List (Option ℕ)) where
     first_count = first_len ∙ last;
     next_count = next_len ∙ last;
     first = λ parent.
-        ap (λ l. step l parent) first_is ∙ (none_in child parent ∙ sym (child_none parent child (omega (arith, last))));
+        ap (λ l. step_up l parent) first_is ∙ (none_in child parent ∙ sym (child_none parent child (omega (arith, last))));
     next = λ parent other after is. absurd (none_at parent other after is);
   }
     where
-      none_at : (parent other : ℕ) → child ≤ other → step parents other ≡ Some parent → ⊥
+      none_at : (parent other : ℕ) → child ≤ other → step_up parents other ≡ Some parent → ⊥
       none_at parent other after is =
-          let none : step parents other ≡ None = get_or_past parents other None (omega (arith, last, after)) in
+          let none : step_up parents other ≡ None = get_or_past parents other None (omega (arith, last, after)) in
           let never : None ≡ Some parent = sym none ∙ is in
           cc
 
   pub linked_on : (child parent : ℕ) (firsts nexts : List (Option ℕ)) → child < length parents → parent < length parents
-      → step parents child ≡ Some parent → LinkedFrom (child + 1) firsts nexts
-      → LinkedFrom child (set firsts parent (Some child)) (set nexts child (step firsts parent))
+      → step_up parents child ≡ Some parent → LinkedFrom (child + 1) firsts nexts
+      → LinkedFrom child (set firsts parent (Some child)) (set nexts child (step_up firsts parent))
   linked_on child parent firsts nexts within inside is linked = record {
     first_count = Rattle.std.proofs.lemmas.List.length-set firsts parent (Some child) ∙ linked.first_count;
-    next_count = Rattle.std.proofs.lemmas.List.length-set nexts child (step firsts parent) ∙ linked.next_count;
+    next_count = Rattle.std.proofs.lemmas.List.length-set nexts child (step_up firsts parent) ∙ linked.next_count;
     first = λ other. first_of other (cases_eq other parent);
     next = λ other place after up. next_of other place after up (cases_eq place child);
   }
     where
       first_of : (other : ℕ) → (other ≡ parent) ⊎ (other ≡ parent → ⊥)
-          → step (set firsts parent (Some child)) other ≡ child_from parents other child
+          → step_up (set firsts parent (Some child)) other ≡ child_from parents other child
       first_of other (inl same) =
-          ap (step (set firsts parent (Some child))) same
+          ap (step_up (set firsts parent (Some child))) same
           ∙ (get_or-set_same firsts parent (Some child) None (omega (arith, inside, linked.first_count))
           ∙ (sym (child_more parent child within
           ∙ ap (λ b. cond b (Some child) (child_from parents parent (child + 1))) (ap (is_at parent) is ∙ eq-eqb parent parent refl))
@@ -101,23 +101,23 @@ module _ (parents : List (Option ℕ)) where
           ∙ ap (λ b. cond b (Some child) (child_from parents other (child + 1)))
           (ap (is_at other) is ∙ ne_eqb parent other (λ e. differs (sym e)))))
 
-      next_of : (other place : ℕ) → child ≤ place → step parents place ≡ Some other → (place ≡ child) ⊎ (place ≡ child → ⊥)
-          → step (set nexts child (step firsts parent)) place ≡ child_from parents other (place + 1)
+      next_of : (other place : ℕ) → child ≤ place → step_up parents place ≡ Some other → (place ≡ child) ⊎ (place ≡ child → ⊥)
+          → step_up (set nexts child (step_up firsts parent)) place ≡ child_from parents other (place + 1)
       next_of other place after up (inl same) =
-          let one : parent ≡ other = ap (place_or 0) (sym is ∙ (ap (step parents) (sym same) ∙ up)) in
-          ap (step (set nexts child (step firsts parent))) same
-          ∙ (get_or-set_same nexts child (step firsts parent) None (omega (arith, within, linked.next_count))
+          let one : parent ≡ other = ap (place_or 0) (sym is ∙ (ap (step_up parents) (sym same) ∙ up)) in
+          ap (step_up (set nexts child (step_up firsts parent))) same
+          ∙ (get_or-set_same nexts child (step_up firsts parent) None (omega (arith, within, linked.next_count))
           ∙ (linked.first parent
           ∙ (ap (λ k. child_from parents k (child + 1)) one ∙ ap (λ k. child_from parents other (k + 1)) (sym same))))
       next_of other place after up (inr differs) =
-          get_or-set_other nexts child place (step firsts parent) None differs
+          get_or-set_other nexts child place (step_up firsts parent) None differs
           ∙ linked.next other place (beyond (cases_lt child place)) up
         where
           beyond : (child < place) ⊎ (place ≤ child) → child + 1 ≤ place
           beyond (inl less) = omega (arith, less)
           beyond (inr back) = absurd (differs (omega (arith, back, after)))
 
-  pub linked_same : (child : ℕ) (firsts nexts : List (Option ℕ)) → child < length parents → step parents child ≡ None
+  pub linked_same : (child : ℕ) (firsts nexts : List (Option ℕ)) → child < length parents → step_up parents child ≡ None
       → LinkedFrom (child + 1) firsts nexts → LinkedFrom child firsts nexts
   linked_same child firsts nexts within none linked = record {
     first_count = linked.first_count;
@@ -129,11 +129,11 @@ module _ (parents : List (Option ℕ)) where
     next = λ other place after up. linked.next other place (beyond other place after up (cases_lt child place)) up;
   }
     where
-      beyond : (other place : ℕ) → child ≤ place → step parents place ≡ Some other → (child < place) ⊎ (place ≤ child) → child + 1 ≤ place
+      beyond : (other place : ℕ) → child ≤ place → step_up parents place ≡ Some other → (child < place) ⊎ (place ≤ child) → child + 1 ≤ place
       beyond other place after up (inl less) = omega (arith, less)
       beyond other place after up (inr back) =
           let same : place ≡ child = omega (arith, back, after) in
-          let never : None ≡ Some other = sym none ∙ (ap (step parents) (sym same) ∙ up) in
+          let never : None ≡ Some other = sym none ∙ (ap (step_up parents) (sym same) ∙ up) in
           absurd cc
 
   pub linked_all : (firsts nexts : List (Option ℕ)) → LinkedFrom 0 firsts nexts → FindsChildren parents firsts nexts
@@ -204,12 +204,12 @@ module _ (parents : List (Option ℕ)) where
         found (is_child parents parent) adds.from (length parents - adds.from) child (sym adds.left_is)
 
     pub adds_on : (child : ℕ) (left : Option ℕ) (before now after : List ℕ) (firsts nexts : List (Option ℕ))
-        → FindsChildren parents firsts nexts → AddsFrom (Some child) before now → left ≡ step nexts child
+        → FindsChildren parents firsts nexts → AddsFrom (Some child) before now → left ≡ step_up nexts child
         → ((place : ℕ) → has_place after place ≡ (has_place now place || (place == child && not (child == root))))
         → AreBelow (length parents) after → AddsFrom left before after
     adds_on child left before now after firsts nexts finds adds is has below = record {
       from = child + 1;
-      left_is = is ∙ finds.next parent child (at-is parent (step parents child) at.passes);
+      left_is = is ∙ finds.next parent child (at-is parent (step_up parents child) at.passes);
       all = λ place. by place (cases_eq place child) ∙ adds.all place;
       below = below;
     }

@@ -5,7 +5,7 @@ use Rattle.std.proofs.lemmas.List.{length-map}
 use Rattle.lei_code.specs.Texts.{Lei}
 use Rattle.group_reports.specs.Groups.{top}
 use Rattle.group_reports.specs.Links.{Link, direct}
-use Rattle.group_reports.specs.Places.{Finds, FindsTops, IsBelow, LeadsBy, LeadsFar, at, at_some, end_by, stay, stays, step}
+use Rattle.group_reports.specs.Places.{FindsEach, FindsTops, IsBelow, LeadsBy, LeadsFar, at, at_some, end_by, stay, stays, step_up}
 use Rattle.group_reports.proofs.ChainLemmas.{lei_or}
 use Rattle.group_reports.proofs.ListLemmas.{get_or-map}
 use Rattle.group_reports.proofs.WalkLemmas.{Far, far_step, top_alone, top_around, top_end}
@@ -43,21 +43,21 @@ module _ (parents : List (Option ℕ)) where
       }
 
   pub tops_by : (least : ℕ) (far : List ℕ) (tops : List (Option ℕ)) → LeadsFar parents least far → length tops ≡ length parents
-      → ((place : ℕ) → IsBelow (length parents) (step tops place))
-      → ((place : ℕ) → place < length parents → step tops place ≡ end_by parents place (get_or far place 0)) → FindsTops parents least tops
+      → ((place : ℕ) → IsBelow (length parents) (step_up tops place))
+      → ((place : ℕ) → place < length parents → step_up tops place ≡ end_by parents place (get_or far place 0)) → FindsTops parents least tops
   tops_by least far tops leads counted within each = record {
     steps = leads.steps;
     enough = leads.enough;
     counted = counted;
-    within = λ place. subst (λ n. IsBelow n (step tops place)) (sym counted) (within place);
+    within = λ place. subst (λ n. IsBelow n (step_up tops place)) (sym counted) (within place);
     each = λ place inside. each place inside ∙ ap (end_by parents place) (leads.leads.each place inside);
   }
 
 -- ---- the same for LEIs
 
-module _ (links : List Link) (leis : List Lei) (parents : List (Option ℕ)) (finds : Finds leis parents (direct links)) where
+module _ (links : List Link) (leis : List Lei) (parents : List (Option ℕ)) (finds : FindsEach leis parents (direct links)) where
   stay_within : (place : ℕ) → place < length leis → stay parents place < length leis
-  stay_within place within = by (step parents place) (subst (λ n. IsBelow n (step parents place)) finds.counted (finds.within place))
+  stay_within place within = by (step_up parents place) (subst (λ n. IsBelow n (step_up parents place)) finds.counted (finds.within place))
     where
       by : (o : Option ℕ) → IsBelow (length leis) o → unwrap_or o place < length leis
       by None below = within
@@ -67,8 +67,8 @@ module _ (links : List Link) (leis : List Lei) (parents : List (Option ℕ)) (fi
   stays_within zero place within = within
   stays_within (suc k) place within = stay_within (stays parents k place) (stays_within k place within)
 
-  stay_lei : (place : ℕ) → lei_or (at leis place) (at_some leis (step parents place)) ≡ at leis (stay parents place)
-  stay_lei place = by (step parents place)
+  stay_lei : (place : ℕ) → lei_or (at leis place) (at_some leis (step_up parents place)) ≡ at leis (stay parents place)
+  stay_lei place = by (step_up parents place)
     where
       by : (o : Option ℕ) → lei_or (at leis place) (at_some leis o) ≡ at leis (unwrap_or o place)
       by None = refl
@@ -78,26 +78,26 @@ module _ (links : List Link) (leis : List Lei) (parents : List (Option ℕ)) (fi
   far zero place within = inl refl
   far (suc k) place within =
       subst (Far links (at leis place) (suc k)) (stay_lei (stays parents k place))
-      (far_step links (at leis place) k (at leis (stays parents k place)) (at_some leis (step parents (stays parents k place)))
+      (far_step links (at leis place) k (at leis (stays parents k place)) (at_some leis (step_up parents (stays parents k place)))
       (sym (finds.each (stays parents k place) (stays_within k place within))) (far k place within))
 
   top_at : (k place : ℕ) → length links ≤ k → place < length leis
       → at_some leis (end_by parents place (stays parents k place)) ≡ top links (at leis place)
   top_at k place enough within =
-      by (step parents place) (sym (finds.each place within)) (step parents (stays parents k place))
+      by (step_up parents place) (sym (finds.each place within)) (step_up parents (stays parents k place))
       (sym (finds.each (stays parents k place) (stays_within k place within)))
     where
       by : (o : Option ℕ) → direct links (at leis place) ≡ at_some leis o → (p : Option ℕ)
           → direct links (at leis (stays parents k place)) ≡ at_some leis p
           → at_some leis (cond (is_none o) None (cond (is_some p) None (Some (stays parents k place))))
           ≡ top links (at leis place)
-      by None none p step = sym (top_alone links (at leis place) none)
-      by (Some first) up (Some next) step =
-          sym (top_around links (at leis place) (at leis (stays parents k place)) (at leis next) k enough (far k place within) step)
+      by None none p step_up = sym (top_alone links (at leis place) none)
+      by (Some first) up (Some next) step_up =
+          sym (top_around links (at leis place) (at leis (stays parents k place)) (at leis next) k enough (far k place within) step_up)
       by (Some first) up None over =
           sym (top_end links (at leis place) (at leis (stays parents k place)) (at leis first) k (far k place within) up over)
 
-  pub finds_tops : (tops : List (Option ℕ)) → FindsTops parents (length links) tops → Finds leis tops (top links)
+  pub finds_tops : (tops : List (Option ℕ)) → FindsTops parents (length links) tops → FindsEach leis tops (top links)
   finds_tops tops ends = record {
     counted = ends.counted ∙ finds.counted;
     within = ends.within;

@@ -6,7 +6,7 @@ use Rattle.std.proofs.Common.{refl, sym, ap, ◌∙◌, ◌⊎◌, inl, inr, ltb
 use Rattle.std.proofs.lemmas.Bool.{and_parts, cases_Bool, false≢true, ltb-false, ltb-true, or_cases, or_left}
 use Rattle.lei_code.specs.Texts.{Lei}
 use Rattle.group_reports.specs.Links.{Link}
-use Rattle.group_reports.specs.Groups.{depth, is_depth, is_member_at, members_at, starts, up}
+use Rattle.group_reports.specs.Groups.{depth, entity_above, is_depth, is_member_at, members_at, starts}
 use Rattle.group_reports.proofs.Levels.{is_in, is_next}
 use Rattle.group_reports.specs.Links.{direct}
 use Rattle.group_reports.specs.Listings.{at_depth, member_of}
@@ -46,12 +46,12 @@ module _ (links : List Link) (root : Lei) where
       let parts = and_parts (not (bytes_eq root lei)) (is_depth d (depth links root lei)) is in
       let at : FoundAt (leads links root lei) 1 (length links) d =
       found (leads links root lei) 1 (length links) d (depth-is links root (depth links root lei) d parts.1) in
-      record { leads = this-is root (up links lei d) at.passes; first = λ j before e. by at (not_true (bytes_eq root lei) parts.0) j before e }
+      record { leads = this-is root (entity_above links lei d) at.passes; first = λ j before e. by at (not_true (bytes_eq root lei) parts.0) j before e }
     where
-      by : FoundAt (leads links root lei) 1 (length links) d → bytes_eq root lei ≡ false → (j : ℕ) → j < d → up links lei j ≡ Some root → ⊥
+      by : FoundAt (leads links root lei) 1 (length links) d → bytes_eq root lei ≡ false → (j : ℕ) → j < d → entity_above links lei j ≡ Some root → ⊥
       by at apart zero before e =
           false≢true (sym apart ∙ (ap (bytes_eq root) (ap (lei_or root) e) ∙ own_lei root))
-      by at apart (suc j) before e = false≢true (sym (at.first (suc j) (omega arith) before) ∙ is-this root (up links lei (suc j)) e)
+      by at apart (suc j) before e = false≢true (sym (at.first (suc j) (omega arith) before) ∙ is-this root (entity_above links lei (suc j)) e)
 
   least-apart : (d : ℕ) (lei : Lei) → IsLeast links root lei (suc d) → bytes_eq root lei ≡ false
   least-apart d lei least = by (cases_Bool (bytes_eq root lei))
@@ -63,7 +63,7 @@ module _ (links : List Link) (root : Lei) where
   least-member_at : (d : ℕ) (lei : Lei) → IsLeast links root lei (suc d) → is_member_at links root (suc d) lei ≡ true
   least-member_at d lei least =
       let few : suc d ≤ length links = least-few links root (suc d) lei least in
-      let at = finds (leads links root lei) 1 (length links) (suc d) (omega arith) (omega (arith, few)) (is-this root (up links lei (suc d)) least.leads) in
+      let at = finds (leads links root lei) 1 (length links) (suc d) (omega arith) (omega (arith, few)) (is-this root (entity_above links lei (suc d)) least.leads) in
       let is = found (leads links root lei) 1 (length links) at.number at.is in
       both (bytes_eq root lei) (is_depth (suc d) (depth links root lei)) (least-apart d lei least)
       (ap (is_depth (suc d)) (at.is ∙ ap Some (exact at.number is)) ∙ is-depth links root (suc d))
@@ -72,9 +72,9 @@ module _ (links : List Link) (root : Lei) where
       exact m is = by (ltb m (suc d)) refl (ltb (suc d) m) refl
         where
           by : (a : Bool) → ltb m (suc d) ≡ a → (b : Bool) → ltb (suc d) m ≡ b → m ≡ suc d
-          by true less b e = absurd (least.first m (ltb-true m (suc d) less) (this-is root (up links lei m) is.passes))
+          by true less b e = absurd (least.first m (ltb-true m (suc d) less) (this-is root (entity_above links lei m) is.passes))
           by false e true more =
-              absurd (false≢true (sym (is.first (suc d) (omega arith) (ltb-true (suc d) m more)) ∙ is-this root (up links lei (suc d)) least.leads))
+              absurd (false≢true (sym (is.first (suc d) (omega arith) (ltb-true (suc d) m more)) ∙ is-this root (entity_above links lei (suc d)) least.leads))
           by false e false f = omega (arith, ltb-false m (suc d) e, ltb-false (suc d) m f)
 
   level-least : (d : ℕ) (lei : Lei) → has (level_at d) lei ≡ true → IsLeast links root lei d
@@ -96,15 +96,15 @@ module _ (links : List Link) (root : Lei) where
   least-more : (d : ℕ) (lei next : Lei) → bytes_eq root lei ≡ false → direct links lei ≡ Some next → IsLeast links root next d
       → IsLeast links root lei (suc d)
   least-more d lei next apart step least = record {
-    leads = up-first links lei d ∙ (ap (option_and_then (λ x. up links x d)) step ∙ least.leads);
+    leads = up-first links lei d ∙ (ap (option_and_then (λ x. entity_above links x d)) step ∙ least.leads);
     first = λ j before e. by j before e;
   }
     where
-      by : (j : ℕ) → j < suc d → up links lei j ≡ Some root → ⊥
+      by : (j : ℕ) → j < suc d → entity_above links lei j ≡ Some root → ⊥
       by zero before e = false≢true (sym apart ∙ (ap (bytes_eq root) (ap (lei_or root) e) ∙ own_lei root))
       by (suc j) before e =
           least.first j (omega (arith, before))
-          (sym (ap (option_and_then (λ x. up links x j)) step) ∙ (sym (up-first links lei j) ∙ e))
+          (sym (ap (option_and_then (λ x. entity_above links x j)) step) ∙ (sym (up-first links lei j) ∙ e))
 
   -- an entity whose direct parent is at one depth is at the next
   next-member : (d : ℕ) (test : Lei → Bool) → ((lei : Lei) → test lei ≡ has (level_at d) lei) → (lei : Lei)

@@ -14,32 +14,32 @@ use Rattle.group_reports.specs.declared.listing.Placed.{Placed}
 use Rattle.group_reports.specs.Groups.{starts}
 use Rattle.group_reports.specs.Links.{Link, direct}
 use Rattle.group_reports.specs.Listings.{at_depth, member_at, placed_at}
-use Rattle.group_reports.specs.Places.{AreBelow, AreInOrder, Finds, IsBelow, at, at_some, ends_of, has_place, has_some, leis_of, step}
+use Rattle.group_reports.specs.Places.{AreBelow, AreSortedLeis, FindsEach, IsBelow, at, at_some, ends_of, has_place, has_some, leis_of, step_up}
 use Rattle.group_reports.proofs.ArcLemmas.{starts_known}
 use Rattle.group_reports.proofs.ChainLemmas.{direct-start, starts-has}
 use Rattle.group_reports.proofs.IndexLemmas.{in_order_of}
 use Rattle.group_reports.proofs.LevelLemmas.{both, both_ways, not_true}
 use Rattle.group_reports.proofs.Levels.{is_in, is_next}
-use Rattle.group_reports.proofs.ListLemmas.{filter-has, has, has-filter, in_order-has, in_order-sorted, own_lei, same_in_order, same_lei}
+use Rattle.group_reports.proofs.ListLemmas.{filter-has, has, has-filter, leis_in_order-has, leis_in_order-sorted, own_lei, same_in_order, same_lei}
 use Rattle.group_reports.proofs.PlaceLemmas.{below_has, map_order, placed, PlacedAt, placed_at as place_among, same_place, Stands, stands}
 
-module _ (links : List Link) (leis : List Lei) (are : leis ≡ leis_of links) (parents : List (Option ℕ)) (finds : Finds leis parents (direct links)) where
-  order : AreInOrder leis
+module _ (links : List Link) (leis : List Lei) (are : leis ≡ leis_of links) (parents : List (Option ℕ)) (finds : FindsEach leis parents (direct links)) where
+  order : AreSortedLeis leis
   order = in_order_of links leis are
 
   start_stands : (lei : Lei) → has (starts links) lei ≡ true → Stands leis lei
   start_stands lei is =
       stands leis lei
       (ap (λ l. has l lei) are
-      ∙ (in_order-has (flat_map ends_of links) lei ∙ starts_known links lei (sym (starts-has links lei) ∙ is)))
+      ∙ (leis_in_order-has (flat_map ends_of links) lei ∙ starts_known links lei (sym (starts-has links lei) ∙ is)))
 
   module _ (root : ℕ) (inside : root < length leis) (level next : List ℕ) (level_below : AreBelow (length leis) level)
       (next_below : AreBelow (length leis) next) (sorted : IsStrictlySortedBy nat_cmp next)
-      (are_next : (place : ℕ) → has_place next place ≡ (not (place == root) && has_some level (step parents place))) where
+      (are_next : (place : ℕ) → has_place next place ≡ (not (place == root) && has_some level (step_up parents place))) where
     there : (lei : Lei) → has (map (at leis) next) lei ≡ true
         → has (filter (is_next links (at leis root) (has (map (at leis) level))) (starts links)) lei ≡ true
     there lei among =
-        subst (λ y. has (filter (is_next links (at leis root) (has (map (at leis) level))) (starts links)) y ≡ true) one.is (by (step parents one.place) refl parts.1)
+        subst (λ y. has (filter (is_next links (at leis root) (has (map (at leis) level))) (starts links)) y ≡ true) one.is (by (step_up parents one.place) refl parts.1)
       where
         one : PlacedAt leis order next lei
         one = place_among leis order next lei among
@@ -47,15 +47,15 @@ module _ (links : List Link) (leis : List Lei) (are : leis ≡ leis_of links) (p
         within : one.place < length leis
         within = below_has (length leis) next one.place next_below one.among
 
-        parts : (not (one.place == root) ≡ true) × (has_some level (step parents one.place) ≡ true)
-        parts = and_parts (not (one.place == root)) (has_some level (step parents one.place)) (sym (are_next one.place) ∙ one.among)
+        parts : (not (one.place == root) ≡ true) × (has_some level (step_up parents one.place) ≡ true)
+        parts = and_parts (not (one.place == root)) (has_some level (step_up parents one.place)) (sym (are_next one.place) ∙ one.among)
 
         apart : bytes_eq (at leis root) (at leis one.place) ≡ false
         apart = false_from_ne_true (bytes_eq (at leis root) (at leis one.place)) (λ is.
             false≢true (sym (not_true (one.place == root) parts.0)
             ∙ eq-eqb one.place root (sym (same_place leis order root one.place inside within (same_lei (at leis root) (at leis one.place) is)))))
 
-        by : (o : Option ℕ) → step parents one.place ≡ o → has_some level o ≡ true
+        by : (o : Option ℕ) → step_up parents one.place ≡ o → has_some level o ≡ true
             → has (filter (is_next links (at leis root) (has (map (at leis) level))) (starts links)) (at leis one.place) ≡ true
         by None up is = absurd (false≢true is)
         by (Some parent) up is =
@@ -69,7 +69,7 @@ module _ (links : List Link) (leis : List Lei) (are : leis ≡ leis_of links) (p
         → has (map (at leis) next) lei ≡ true
     back lei among =
         subst (λ y. has (map (at leis) next) y ≡ true) stood.is
-        (placed leis order next stood.place (are_next stood.place ∙ both (stood.place == root) (has_some level (step parents stood.place)) other (by (step parents stood.place) refl)))
+        (placed leis order next stood.place (are_next stood.place ∙ both (stood.place == root) (has_some level (step_up parents stood.place)) other (by (step_up parents stood.place) refl)))
       where
         picked : (has (starts links) lei ≡ true) × (is_next links (at leis root) (has (map (at leis) level)) lei ≡ true)
         picked = filter-has (is_next links (at leis root) (has (map (at leis) level))) (starts links) lei among
@@ -85,10 +85,10 @@ module _ (links : List Link) (leis : List Lei) (are : leis ≡ leis_of links) (p
             false≢true (sym (not_true (bytes_eq (at leis root) lei) parts.0)
             ∙ (ap (bytes_eq (at leis root)) (sym stood.is ∙ ap (at leis) (eqb-true stood.place root is)) ∙ own_lei (at leis root))))
 
-        direct_is : direct links lei ≡ at_some leis (step parents stood.place)
+        direct_is : direct links lei ≡ at_some leis (step_up parents stood.place)
         direct_is = ap (direct links) (sym stood.is) ∙ sym (finds.each stood.place stood.within)
 
-        by : (o : Option ℕ) → step parents stood.place ≡ o → has_some level (step parents stood.place) ≡ true
+        by : (o : Option ℕ) → step_up parents stood.place ≡ o → has_some level (step_up parents stood.place) ≡ true
         by None up = absurd (false≢true (ap (is_in (has (map (at leis) level))) (sym (direct_is ∙ ap (at_some leis) up)) ∙ parts.1))
         by (Some parent) up =
             let is_parent : has (map (at leis) level) (at leis parent) ≡ true =
@@ -96,7 +96,7 @@ module _ (links : List Link) (leis : List Lei) (are : leis ≡ leis_of links) (p
             let one = place_among leis order level (at leis parent) is_parent in
             let parent_within : parent < length leis =
             subst (IsBelow (length leis)) up
-            (subst (λ n. IsBelow n (step parents stood.place)) finds.counted (finds.within stood.place)) in
+            (subst (λ n. IsBelow n (step_up parents stood.place)) finds.counted (finds.within stood.place)) in
             let same : one.place ≡ parent =
             same_place leis order one.place parent (below_has (length leis) level one.place level_below one.among) parent_within one.is in
             ap (has_some level) up ∙ (ap (has_place level) (sym same) ∙ one.among)
@@ -106,7 +106,7 @@ module _ (links : List Link) (leis : List Lei) (are : leis ≡ leis_of links) (p
         same_in_order (map (at leis) next) (filter (is_next links (at leis root) (has (map (at leis) level))) (starts links))
         (map_order leis order next sorted next_below)
         (IsStrictlySortedBy-filter (slice_cmp nat_cmp) (is_next links (at leis root) (has (map (at leis) level))) (starts links)
-        (in_order-sorted (map (λ link. link.start) links)))
+        (leis_in_order-sorted (map (λ link. link.start) links)))
         (λ lei. both_ways (has (map (at leis) next) lei)
         (has (filter (is_next links (at leis root) (has (map (at leis) level))) (starts links)) lei) (there lei) (back lei))
 

@@ -18,7 +18,7 @@ use Rattle.std.proofs.lemmas.Map.Keys.{sorted_head, sorted_tail}
 use Rattle.std.proofs.lemmas.Map.Text.{is_eq-slice_cmp}
 use Rattle.std.proofs.lemmas.Slice.Eq.{bytes_eq-Decides}
 use Rattle.lei_code.specs.Texts.{Lei}
-use Rattle.group_reports.specs.Groups.{in_order}
+use Rattle.group_reports.specs.Groups.{leis_in_order}
 use Rattle.group_reports.proofs.InsertLemmas.{insert-has}
 
 pub same_lei : (x y : Lei) → bytes_eq x y ≡ true → x ≡ y
@@ -72,8 +72,8 @@ fold-has made (x ∷ xs) y =
     turn true false h = refl
     turn false l h = refl
 
-pub in_order-has : (leis : List Lei) (y : Lei) → has (in_order leis) y ≡ has leis y
-in_order-has leis y = fold-has [] leis y
+pub leis_in_order-has : (leis : List Lei) (y : Lei) → has (leis_in_order leis) y ≡ has leis y
+leis_in_order-has leis y = fold-has [] leis y
 
 -- ---- in order: each once
 
@@ -123,11 +123,11 @@ none_sorted : IsStrictlySortedBy (slice_cmp nat_cmp) []
 unfolding IsStrictlySortedBy
 none_sorted = tt
 
-pub in_order-sorted : (leis : List Lei) → IsStrictlySortedBy (slice_cmp nat_cmp) (in_order leis)
-in_order-sorted leis = fold-sorted [] leis none_sorted
+pub leis_in_order-sorted : (leis : List Lei) → IsStrictlySortedBy (slice_cmp nat_cmp) (leis_in_order leis)
+leis_in_order-sorted leis = fold-sorted [] leis none_sorted
 
-pub in_order-distinct : (leis : List Lei) → IsDistinct bytes_eq (in_order leis)
-in_order-distinct leis = sorted-distinct (in_order leis) (in_order-sorted leis)
+pub leis_in_order-distinct : (leis : List Lei) → IsDistinct bytes_eq (leis_in_order leis)
+leis_in_order-distinct leis = sorted-distinct (leis_in_order leis) (leis_in_order-sorted leis)
 
 -- ---- none twice
 

@@ -16,11 +16,11 @@ use Rattle.lei_code.specs.Texts.{Lei, Text}
 use Rattle.lei_records.specs.Rows.{text_at}
 use Rattle.lei_records.specs.Tables.{key_cmp}
 use Rattle.register_words.specs.declared.sheets.Sheet.{Sheet}
-use Rattle.copy_csv.specs.Rows.{AreRows, IsRowOf}
+use Rattle.copy_csv.specs.Rows.{AreRows, IsRowOfSheet}
 use Rattle.copy_csv.specs.Sheets.{SheetRow, key, key_len, width}
-use Rattle.group_reports.specs.Links.{Name, name_at, named}
+use Rattle.group_reports.specs.Links.{Name, key_and_name, name_at}
 use Rattle.group_reports.specs.Named.{AreNamed}
-use Rattle.group_reports.specs.Places.{AreInOrder, at}
+use Rattle.group_reports.specs.Places.{AreSortedLeis, at}
 use Rattle.group_reports.proofs.ListLemmas.{has, own_lei}
 use Rattle.group_reports.proofs.PlaceLemmas.{eq_places}
 
@@ -30,7 +30,7 @@ first_text : (texts : List Text) → 1 ≤ length texts → take 1 texts ≡ tex
 first_text [] some = absurd (omega (arith, some))
 first_text (x ∷ xs) some = refl
 
-key_is : (row : SheetRow) → IsRowOf Sheet.Lei row → key row ≡ text_at row.texts 1 ∷ []
+key_is : (row : SheetRow) → IsRowOfSheet Sheet.Lei row → key row ≡ text_at row.texts 1 ∷ []
 key_is row is =
     let full : length row.texts ≡ 32 = is.0.full ∙ ap width is.1 in
     ap (λ s. take (key_len s) row.texts) is.1 ∙ first_text row.texts (omega (arith, full))
@@ -40,23 +40,23 @@ less_first Less is = refl
 less_first Equal is = is
 less_first Greater is = is
 
-leis_in_order : (rows : List SheetRow) → All (IsRowOf Sheet.Lei) rows → IsStrictlySortedBy key_cmp (map key rows)
-    → AreInOrder (map (λ row. text_at row.texts 1) rows)
+leis_in_order : (rows : List SheetRow) → All (IsRowOfSheet Sheet.Lei) rows → IsStrictlySortedBy key_cmp (map key rows)
+    → AreSortedLeis (map (λ row. text_at row.texts 1) rows)
 unfolding IsStrictlySortedBy
 leis_in_order [] each rising = tt
 leis_in_order (row ∷ rows) each rising = (
-  after rows (All-tail (IsRowOf Sheet.Lei) row rows each) rising.0,
-  leis_in_order rows (All-tail (IsRowOf Sheet.Lei) row rows each) rising.1,
+  after rows (All-tail (IsRowOfSheet Sheet.Lei) row rows each) rising.0,
+  leis_in_order rows (All-tail (IsRowOfSheet Sheet.Lei) row rows each) rising.1,
 )
   where
-    after : (others : List SheetRow) → All (IsRowOf Sheet.Lei) others → AllByRecursion (λ k. key_cmp (key row) k ≡ Less) (map key others)
+    after : (others : List SheetRow) → All (IsRowOfSheet Sheet.Lei) others → AllByRecursion (λ k. key_cmp (key row) k ≡ Less) (map key others)
         → AllByRecursion (λ lei. slice_cmp nat_cmp (text_at row.texts 1) lei ≡ Less) (map (λ other. text_at other.texts 1) others)
     after [] own all = tt
     after (other ∷ others) own all = (
       less_first (slice_cmp nat_cmp (text_at row.texts 1) (text_at other.texts 1))
-          (sym (ap (λ k. key_cmp k (key other)) (key_is row (All-head (IsRowOf Sheet.Lei) row rows each))
-          ∙ ap (key_cmp (text_at row.texts 1 ∷ [])) (key_is other (All-head (IsRowOf Sheet.Lei) other others own))) ∙ all.0),
-      after others (All-tail (IsRowOf Sheet.Lei) other others own) all.1,
+          (sym (ap (λ k. key_cmp k (key other)) (key_is row (All-head (IsRowOfSheet Sheet.Lei) row rows each))
+          ∙ ap (key_cmp (text_at row.texts 1 ∷ [])) (key_is other (All-head (IsRowOfSheet Sheet.Lei) other others own))) ∙ all.0),
+      after others (All-tail (IsRowOfSheet Sheet.Lei) other others own) all.1,
     )
 
 pub are_named : (rows : List SheetRow) → AreRows Sheet.Lei rows
@@ -66,13 +66,13 @@ are_named rows are = record {
   counted = length-map rows (λ row. text_at row.texts 2) ∙ sym (length-map rows (λ row. text_at row.texts 1));
 }
 
-pub names_are : (rows : List SheetRow) → zip (map (λ row. text_at row.texts 1) rows) (map (λ row. text_at row.texts 2) rows) ≡ map named rows
+pub names_are : (rows : List SheetRow) → zip (map (λ row. text_at row.texts 1) rows) (map (λ row. text_at row.texts 2) rows) ≡ map key_and_name rows
 names_are [] = refl
-names_are (row ∷ rows) = ap (λ l. named row ∷ l) (names_are rows)
+names_are (row ∷ rows) = ap (λ l. key_and_name row ∷ l) (names_are rows)
 
 -- ---- the name of an entity
 
-pub name_found : (leis : List Lei) (texts : List Text) (place : ℕ) (lei : Lei) → AreInOrder leis → length texts ≡ length leis → place < length leis
+pub name_found : (leis : List Lei) (texts : List Text) (place : ℕ) (lei : Lei) → AreSortedLeis leis → length texts ≡ length leis → place < length leis
     → at leis place ≡ lei → name_at (zip leis texts) lei ≡ Some (at texts place)
 name_found [] texts place lei order counted within is = absurd (omega (arith, within))
 name_found (x ∷ xs) [] place lei order counted within is = absurd (omega (arith, counted))

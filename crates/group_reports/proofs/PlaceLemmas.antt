@@ -17,7 +17,7 @@ use Rattle.std.proofs.lemmas.Map.Keys.{Less-from_sorted}
 use Rattle.std.proofs.lemmas.Map.Text.{is_eq-slice_cmp}
 use Rattle.lei_code.specs.Texts.{Lei}
 use Rattle.lei_records.specs.Rows.{text_at}
-use Rattle.group_reports.specs.Places.{AreBelow, AreInOrder, at, has_place}
+use Rattle.group_reports.specs.Places.{AreBelow, AreSortedLeis, at, has_place}
 use Rattle.group_reports.proofs.InsertLemmas.{insert-has}
 use Rattle.group_reports.proofs.ListLemmas.{has, own_lei, same_lei}
 
@@ -101,7 +101,7 @@ AreLess leis lei low = (j : ℕ) → j < low → slice_cmp nat_cmp (at leis j) l
 abbrev pub AreMore : List Lei → Lei → ℕ → Type 0
 AreMore leis lei high = (j : ℕ) → high ≤ j → j < length leis → slice_cmp nat_cmp lei (at leis j) ≡ Less
 
-module _ (leis : List Lei) (order : AreInOrder leis) where
+module _ (leis : List Lei) (order : AreSortedLeis leis) where
   rising : (i j : ℕ) → i < j → j < length leis → slice_cmp nat_cmp (at leis i) (at leis j) ≡ Less
   rising i j before within = Less-from_sorted (slice_cmp nat_cmp) leis i j [] order before within
 
@@ -200,7 +200,7 @@ module _ (leis : List Lei) (order : AreInOrder leis) where
       put_leis (insert_key nat_cmp made x) xs (below_put (length leis) made x below first) (All-tail (λ place. place < length leis) x xs within)
       ∙ ap (λ l. fold (insert_key (slice_cmp nat_cmp)) l (map (at leis) xs)) (put_lei made x below first)
 
-  pub map_order : (places : List ℕ) → IsStrictlySortedBy nat_cmp places → AreBelow (length leis) places → AreInOrder (map (at leis) places)
+  pub map_order : (places : List ℕ) → IsStrictlySortedBy nat_cmp places → AreBelow (length leis) places → AreSortedLeis (map (at leis) places)
   unfolding IsStrictlySortedBy
   map_order [] sorted below = tt
   map_order (x ∷ xs) sorted below = (

@@ -7,11 +7,11 @@ use Rattle.lei_code.specs.Texts.{Lei, Text}
 use Rattle.group_reports.specs.Links.{Link}
 use Rattle.group_reports.specs.Listings.{Member}
 use Rattle.group_reports.specs.declared.listing.Placed.{Placed}
-use Rattle.group_reports.specs.Groups.{disagrees, group, in_order, members}
+use Rattle.group_reports.specs.Groups.{disagrees, group, leis_in_order, members}
 use Rattle.group_reports.specs.Links.{GroupTable}
 use Rattle.group_reports.specs.Listings.{all_members, member_of}
 use Rattle.group_reports.specs.Places.{AreBelow}
-use Rattle.group_reports.specs.Reports.{disagreement_line, disagreement_lines, group_report, line, member_line, members_line, root_line}
+use Rattle.group_reports.specs.Reports.{disagreement_line, disagreement_lines, group_report, member_line, members_line, report_line, root_line}
 use Rattle.group_reports.proofs.ListLemmas.{get_or-map}
 
 -- the members at one more depth were added
@@ -36,13 +36,13 @@ member_below count members i d below within =
 -- the lines of disagreements, and the line with their number
 pub counted_lines : (links : List Link) (leis : List Lei) (old lines out number : Text) (count : ℕ)
     → lines ≡ old ++ flat_map (disagreement_line links) (filter (disagrees links) leis) → count ≡ length (filter (disagrees links) leis)
-    → number ≡ decimal count → out ≡ lines ++ line (codes "disagreements") (number ∷ []) → out ≡ old ++ disagreement_lines links leis
+    → number ≡ decimal count → out ≡ lines ++ report_line (codes "disagreements") (number ∷ []) → out ≡ old ++ disagreement_lines links leis
 counted_lines links leis old lines out number count put counted printed is =
     is
-    ∙ (ap (λ n. lines ++ line (codes "disagreements") (n ∷ [])) (printed ∙ ap decimal counted)
-    ∙ (ap (λ l. l ++ line (codes "disagreements") (decimal (length (filter (disagrees links) leis)) ∷ [])) put
+    ∙ (ap (λ n. lines ++ report_line (codes "disagreements") (n ∷ [])) (printed ∙ ap decimal counted)
+    ∙ (ap (λ l. l ++ report_line (codes "disagreements") (decimal (length (filter (disagrees links) leis)) ∷ [])) put
     ∙ append_assoc old (flat_map (disagreement_line links) (filter (disagrees links) leis))
-    (line (codes "disagreements") (decimal (length (filter (disagrees links) leis)) ∷ []))))
+    (report_line (codes "disagreements") (decimal (length (filter (disagrees links) leis)) ∷ []))))
 
 leis_of : (links : List Link) (root : Lei) (leis : List Lei) → map (λ member. member.lei) (map (member_of links root) leis) ≡ leis
 leis_of links root [] = refl
@@ -52,15 +52,15 @@ leis_of links root (lei ∷ leis) = ap (λ l. lei ∷ l) (leis_of links root lei
 pub report_of_parts : (table : GroupTable) (root : Lei) (first second third out : Text) (made : List Member) (count : ℕ) (entities : List Lei)
     → first ≡ root_line table.names root → second ≡ first ++ flat_map (member_line table) made → third ≡ second ++ members_line count
     → out ≡ third ++ disagreement_lines table.links entities → made ≡ all_members table.links root → count ≡ length made
-    → entities ≡ in_order (root ∷ map (λ member. member.lei) made) → out ≡ group_report table root
+    → entities ≡ leis_in_order (root ∷ map (λ member. member.lei) made) → out ≡ group_report table root
 unfolding group_report
 report_of_parts table root first second third out made count entities one two three four made_is count_is entities_are =
     let lines : Text = flat_map (member_line table) made in
     let number : count ≡ length (members table.links root) =
     count_is ∙ (ap length made_is ∙ length-map (members table.links root) (member_of table.links root)) in
     let all : entities ≡ group table.links root =
-    entities_are ∙ (ap (λ l. in_order (root ∷ map (λ member. member.lei) l)) made_is
-    ∙ ap (λ l. in_order (root ∷ l)) (leis_of table.links root (members table.links root))) in
+    entities_are ∙ (ap (λ l. leis_in_order (root ∷ map (λ member. member.lei) l)) made_is
+    ∙ ap (λ l. leis_in_order (root ∷ l)) (leis_of table.links root (members table.links root))) in
     four
     ∙ (ap (λ l. l ++ disagreement_lines table.links entities)
     (three ∙ ap (λ l. l ++ members_line count) (two ∙ ap (λ l. l ++ lines) one))

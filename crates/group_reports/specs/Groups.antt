@@ -10,20 +10,20 @@ use Rattle.lei_code.specs.Texts.{Lei}
 use Rattle.group_reports.specs.Links.{Link, direct, reported}
 
 -- The LEIs without repetitions, in byte order.
-abbrev pub in_order : List Lei → List Lei
-in_order leis = fold (insert_key (slice_cmp nat_cmp)) [] leis
+abbrev pub leis_in_order : List Lei → List Lei
+leis_in_order leis = fold (insert_key (slice_cmp nat_cmp)) [] leis
 
 -- ---- walks up
 
 -- The entity this many steps above an entity: no step leads to the entity itself, and each further one to the direct
 -- parent.
-abbrev pub up : List Link → Lei → ℕ → Option Lei
-up links lei zero = Some lei
-up links lei (suc k) = option_and_then (direct links) (up links lei k)
+abbrev pub entity_above : List Link → Lei → ℕ → Option Lei
+entity_above links lei zero = Some lei
+entity_above links lei (suc k) = option_and_then (direct links) (entity_above links lei k)
 
 -- A chain of direct parents leads from one entity to another, however long it is.
-abbrev pub Leads : List Link → Lei → Lei → Type 0
-Leads links lei root = (k : ℕ) × (up links lei k ≡ Some root)
+abbrev pub LeadsUpTo : List Link → Lei → Lei → Type 0
+LeadsUpTo links lei root = (k : ℕ) × (entity_above links lei k ≡ Some root)
 
 -- The numbers of steps that walks take: up to the number of rows. A longer walk reaches no further entity.
 abbrev pub steps : List Link → List ℕ
@@ -36,18 +36,18 @@ is_this root (Some lei) = bytes_eq root lei
 
 -- The walk up ends after this many steps.
 abbrev pub ends_after : List Link → Lei → ℕ → Bool
-ends_after links lei k = is_some (up links lei k) && is_none (up links lei (suc k))
+ends_after links lei k = is_some (entity_above links lei k) && is_none (entity_above links lei (suc k))
 
 -- The end of the walk up: the computed ultimate parent. There is none if there is no direct parent, or if the walk
 -- comes back to an earlier entity.
 abbrev pub top : List Link → Lei → Option Lei
-top links lei = option_and_then (up links lei) (find (ends_after links lei) (steps links))
+top links lei = option_and_then (entity_above links lei) (find (ends_after links lei) (steps links))
 
 -- ---- members
 
 -- The depth of an entity below a root: the least number of steps that lead to the root, if any lead there.
 abbrev pub depth : List Link → Lei → Lei → Option ℕ
-depth links root lei = find (λ k. is_this root (up links lei k)) (steps links)
+depth links root lei = find (λ k. is_this root (entity_above links lei k)) (steps links)
 
 -- There is a depth, and it is this one.
 abbrev pub is_depth : ℕ → Option ℕ → Bool
@@ -56,7 +56,7 @@ is_depth d (Some k) = k == d
 
 -- The starts of all links, in byte order.
 abbrev pub starts : List Link → List Lei
-starts links = in_order (map (λ link. link.start) links)
+starts links = leis_in_order (map (λ link. link.start) links)
 
 -- An entity other than the root is at this depth below it.
 abbrev pub is_member_at : List Link → Lei → ℕ → Lei → Bool
@@ -72,7 +72,7 @@ members links root = flat_map (members_at links root) (steps links)
 
 -- The root and the members, in byte order.
 abbrev pub group : List Link → Lei → List Lei
-group links root = in_order (root ∷ members links root)
+group links root = leis_in_order (root ∷ members links root)
 
 -- ---- disagreements
 

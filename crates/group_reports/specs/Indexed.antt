@@ -4,7 +4,7 @@ use Rattle.lei_code.specs.Texts.{Lei}
 use Rattle.group_reports.specs.Groups.{top}
 use Rattle.group_reports.specs.Groups as groups
 use Rattle.group_reports.specs.Links.{Link, direct, reported}
-use Rattle.group_reports.specs.Places.{AreBelow, Finds, at, leis_of}
+use Rattle.group_reports.specs.Places.{AreBelow, FindsEach, at, leis_of}
 
 -- The links, and the LEIs in them.
 pub record LinkTable : Type 0 where
@@ -13,11 +13,11 @@ pub record LinkTable : Type 0 where
 
 -- These are the number of the links, the LEIs in them, the places that they start at, and for each place those of its
 -- parents: the direct one, the reported ultimate one, and the computed ultimate one.
-pub record IsIndexed (links : List Link) (count : ℕ) (leis : List Lei) (starts : List ℕ) (parents ultimates tops : List (Option ℕ)) : Type 0 where
+pub record LinksAreIndexed (links : List Link) (count : ℕ) (leis : List Lei) (starts : List ℕ) (parents ultimates tops : List (Option ℕ)) : Type 0 where
   pub counted : count ≡ length links
   pub leis_are : leis ≡ leis_of links
   pub starts_are : map (at leis) starts ≡ groups.starts links
   pub starts_below : AreBelow (length leis) starts
-  pub parents_are : Finds leis parents (direct links)
-  pub ultimates_are : Finds leis ultimates (reported links)
-  pub tops_are : Finds leis tops (top links)
+  pub parents_are : FindsEach leis parents (direct links)
+  pub ultimates_are : FindsEach leis ultimates (reported links)
+  pub tops_are : FindsEach leis tops (top links)

@@ -29,12 +29,12 @@ abbrev pub kind_by : Text → Text → LinkKind
 kind_by text status = if bytes_eq status (codes "ACTIVE") then kind_of_type text else LinkKind.Other
 
 -- The second text of a row of `rr` is the type of the relationship, and the fourth its status.
-abbrev pub kind_of : SheetRow → LinkKind
-kind_of row = kind_by (text_at row.texts 2) (text_at row.texts 4)
+abbrev pub link_kind : SheetRow → LinkKind
+link_kind row = kind_by (text_at row.texts 2) (text_at row.texts 4)
 
 -- A row of `rr` as a link. Its first text is the start, and its third the end.
 abbrev pub link_of : SheetRow → Link
-link_of row = record { start = text_at row.texts 1; kind = kind_of row; end = text_at row.texts 3 }
+link_of row = record { start = text_at row.texts 1; kind = link_kind row; end = text_at row.texts 3 }
 
 -- ---- what is kept
 
@@ -43,8 +43,8 @@ abbrev pub Name : Type 0
 Name = Text × Text
 
 -- The key and the name are the first and the second text of the row.
-abbrev pub named : SheetRow → Name
-named row = (text_at row.texts 1, text_at row.texts 2)
+abbrev pub key_and_name : SheetRow → Name
+key_and_name row = (text_at row.texts 1, text_at row.texts 2)
 
 -- The LEI and the name of each row of `lei`, and each row of `rr` as a link, in the order of the rows.
 pub record GroupTable : Type 0 where
@@ -52,28 +52,28 @@ pub record GroupTable : Type 0 where
   pub links : List Link
 
 -- The table is that of these rows, of `lei` and of `rr`.
-pub record IsTableOf (lei rr : List SheetRow) (table : GroupTable) : Type 0 where
-  pub names_are : table.names ≡ map named lei
+pub record IsGroupTable (lei rr : List SheetRow) (table : GroupTable) : Type 0 where
+  pub names_are : table.names ≡ map key_and_name lei
   pub links_are : table.links ≡ map link_of rr
 
 -- The number of the publication of a copy, which is known only in JSON.
-abbrev pub publication_in : Option Head → Option ℕ
-publication_in head = option_map (λ head. head.publication) head
+abbrev pub head_publication : Option Head → Option ℕ
+head_publication head = option_map (λ head. head.publication) head
 
 -- Why two copies don't go together: they are from two publications, and the numbers of both are given. This says
 -- nothing of lack of memory.
-abbrev pub IsRefusal : Option Head → Option Head → GroupFault → Type 0
-IsRefusal lei rr (faults.OtherPublication p q) =
-    (publication_in lei ≡ Some p) × (publication_in rr ≡ Some q) × (p ≢ q)
-IsRefusal lei rr faults.NoMemory = ⊤
+abbrev pub IsGroupFault : Option Head → Option Head → GroupFault → Type 0
+IsGroupFault lei rr (faults.OtherPublication p q) =
+    (head_publication lei ≡ Some p) × (head_publication rr ≡ Some q) × (p ≢ q)
+IsGroupFault lei rr faults.NoMemory = ⊤
 
 -- ---- parents
 
 -- The link says that this is the direct parent of an entity.
-abbrev pub is_direct : LinkKind → Bool
-is_direct LinkKind.Direct = true
-is_direct LinkKind.Ultimate = false
-is_direct LinkKind.Other = false
+abbrev pub is_direct_link : LinkKind → Bool
+is_direct_link LinkKind.Direct = true
+is_direct_link LinkKind.Ultimate = false
+is_direct_link LinkKind.Other = false
 
 -- The link says that this is the ultimate parent of an entity.
 abbrev pub is_ultimate : LinkKind → Bool
@@ -84,7 +84,7 @@ is_ultimate LinkKind.Other = false
 -- The direct parent of an entity, if it has one: the end of the first link that names one. Links are in the order of
 -- the keys of their rows.
 abbrev pub direct : List Link → Lei → Option Lei
-direct links lei = option_map (λ link. link.end) (find (λ link. is_direct link.kind && bytes_eq lei link.start) links)
+direct links lei = option_map (λ link. link.end) (find (λ link. is_direct_link link.kind && bytes_eq lei link.start) links)
 
 -- The reported ultimate parent of an entity, if one is reported: the end of the first link that names one.
 abbrev pub reported : List Link → Lei → Option Lei

@@ -8,7 +8,7 @@ use Rattle.std.specs.Ordering.{nat_cmp}
 use Rattle.std.specs.Set.{is_member}
 use Rattle.std.specs.Str.{bytes_eq}
 use Rattle.lei_code.specs.Texts.{Lei}
-use Rattle.group_reports.specs.Groups.{in_order}
+use Rattle.group_reports.specs.Groups.{leis_in_order}
 use Rattle.group_reports.specs.Links.{Link}
 
 -- ---- LEIs by place
@@ -19,11 +19,11 @@ ends_of link = link.start ∷ link.end ∷ []
 
 -- The LEIs that links start or end at, each once and in byte order.
 abbrev pub leis_of : List Link → List Lei
-leis_of links = in_order (flat_map ends_of links)
+leis_of links = leis_in_order (flat_map ends_of links)
 
 -- Each once, and in byte order.
-abbrev pub AreInOrder : List Lei → Type 0
-AreInOrder leis = IsStrictlySortedBy (slice_cmp nat_cmp) leis
+abbrev pub AreSortedLeis : List Lei → Type 0
+AreSortedLeis leis = IsStrictlySortedBy (slice_cmp nat_cmp) leis
 
 -- The LEI at a place; places are counted from 0.
 abbrev pub at : List Lei → ℕ → Lei
@@ -34,15 +34,15 @@ abbrev pub at_some : List Lei → Option ℕ → Option Lei
 at_some leis place = option_map (at leis) place
 
 -- If a place was found, it is that of this LEI, and if none was, the LEI isn't there.
-abbrev pub IsPlaceOf : List Lei → Lei → Option ℕ → Type 0
-IsPlaceOf leis lei None = is_member bytes_eq leis lei ≡ false
-IsPlaceOf leis lei (Some place) = (place < length leis) × (at leis place ≡ lei)
+abbrev pub IsLeiPlace : List Lei → Lei → Option ℕ → Type 0
+IsLeiPlace leis lei None = is_member bytes_eq leis lei ≡ false
+IsLeiPlace leis lei (Some place) = (place < length leis) × (at leis place ≡ lei)
 
 -- ---- steps up
 
 -- The place that the step up from a place leads to, if there is one.
-abbrev pub step : List (Option ℕ) → ℕ → Option ℕ
-step parents place = get_or parents place None
+abbrev pub step_up : List (Option ℕ) → ℕ → Option ℕ
+step_up parents place = get_or parents place None
 
 -- A place that may be missing is below a count.
 abbrev pub IsBelow : ℕ → Option ℕ → Type 0
@@ -51,19 +51,19 @@ IsBelow count (Some place) = place < count
 
 -- Each step leads to a place within the list.
 abbrev pub LeadsWithin : List (Option ℕ) → Type 0
-LeadsWithin parents = (place : ℕ) → IsBelow (length parents) (step parents place)
+LeadsWithin parents = (place : ℕ) → IsBelow (length parents) (step_up parents place)
 
 -- A list gives for the LEI at each place what a definition says of that LEI.
-pub record Finds (leis : List Lei) (places : List (Option ℕ)) (meaning : Lei → Option Lei) : Type 0 where
+pub record FindsEach (leis : List Lei) (places : List (Option ℕ)) (meaning : Lei → Option Lei) : Type 0 where
   pub counted : length places ≡ length leis
   pub within : LeadsWithin places
-  pub each : (place : ℕ) → place < length leis → at_some leis (step places place) ≡ meaning (at leis place)
+  pub each : (place : ℕ) → place < length leis → at_some leis (step_up places place) ≡ meaning (at leis place)
 
 -- ---- many steps up
 
 -- A step up, which stays at the end of the walk.
 abbrev pub stay : List (Option ℕ) → ℕ → ℕ
-stay parents place = unwrap_or (step parents place) place
+stay parents place = unwrap_or (step_up parents place) place
 
 -- This many such steps.
 abbrev pub stays : List (Option ℕ) → ℕ → ℕ → ℕ
@@ -86,7 +86,7 @@ pub record LeadsFar (parents : List (Option ℕ)) (least : ℕ) (far : List ℕ)
 -- still leads up from that place.
 abbrev pub end_by : List (Option ℕ) → ℕ → ℕ → Option ℕ
 end_by parents place far =
-    if is_none (step parents place) then None else if is_some (step parents far) then None else Some far
+    if is_none (step_up parents place) then None else if is_some (step_up parents far) then None else Some far
 
 -- A list gives for each place the end of the walk up from it.
 pub record FindsTops (parents : List (Option ℕ)) (least : ℕ) (tops : List (Option ℕ)) : Type 0 where
@@ -94,7 +94,7 @@ pub record FindsTops (parents : List (Option ℕ)) (least : ℕ) (tops : List (O
   pub enough : least ≤ steps
   pub counted : length tops ≡ length parents
   pub within : LeadsWithin tops
-  pub each : (place : ℕ) → place < length parents → step tops place ≡ end_by parents place (stays parents steps place)
+  pub each : (place : ℕ) → place < length parents → step_up tops place ≡ end_by parents place (stays parents steps place)
 
 -- ---- steps down
 
@@ -105,7 +105,7 @@ is_at place (Some other) = other == place
 
 -- The step up from a place leads to this one.
 abbrev pub is_child : List (Option ℕ) → ℕ → ℕ → Bool
-is_child parents parent child = is_at parent (step parents child)
+is_child parents parent child = is_at parent (step_up parents child)
 
 -- The first child of a parent, at a place or after it.
 abbrev pub child_from : List (Option ℕ) → ℕ → ℕ → Option ℕ
@@ -115,8 +115,8 @@ child_from parents parent place = find (is_child parents parent) (range_with_len
 pub record FindsChildren (parents firsts nexts : List (Option ℕ)) : Type 0 where
   pub first_count : length firsts ≡ length parents
   pub next_count : length nexts ≡ length parents
-  pub first : (parent : ℕ) → step firsts parent ≡ child_from parents parent 0
-  pub next : (parent child : ℕ) → step parents child ≡ Some parent → step nexts child ≡ child_from parents parent (child + 1)
+  pub first : (parent : ℕ) → step_up firsts parent ≡ child_from parents parent 0
+  pub next : (parent child : ℕ) → step_up parents child ≡ Some parent → step_up nexts child ≡ child_from parents parent (child + 1)
 
 -- ---- places that may be missing
 

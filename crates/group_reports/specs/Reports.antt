@@ -2,7 +2,7 @@
 use Rattle.std.specs.Prelude.{ℕ, List, [], ◌∷◌, ◌++◌, Option, codes, decimal, filter, flat_map, length, option_and_then, unwrap_or}
 use Rattle.lei_code.specs.Texts.{Lei, Text}
 use Rattle.lei_records.specs.Spelled.{present}
-use Rattle.group_reports.specs.Groups.{disagrees, group, members, starts, top, up}
+use Rattle.group_reports.specs.Groups.{disagrees, entity_above, group, members, starts, top}
 use Rattle.group_reports.specs.Links.{GroupTable, Link, Name, name_at, reported}
 use Rattle.group_reports.specs.Listings.{Member, all_members}
 
@@ -11,28 +11,28 @@ abbrev pub after_space : Text → Text
 after_space word = 32 ∷ word
 
 -- A line with a first word and others.
-abbrev pub line : Text → List Text → Text
-line first others = first ++ (flat_map after_space others ++ 10 ∷ [])
+abbrev pub report_line : Text → List Text → Text
+report_line first others = first ++ (flat_map after_space others ++ 10 ∷ [])
 
 -- A word, or a hyphen if it is missing.
 abbrev pub or_hyphen : Option Text → Text
 or_hyphen word = unwrap_or word (codes "-")
 
 -- The legal name of an entity. It is missing if the entity has no row, or if the row has no text there.
-abbrev pub name_of : List Name → Lei → Option Text
-name_of names lei = option_and_then present (name_at names lei)
+abbrev pub name_under : List Name → Lei → Option Text
+name_under names lei = option_and_then present (name_at names lei)
 
 -- ---- a report on a group
 
 -- The line of the root: its LEI and its name.
 abbrev pub root_line : List Name → Lei → Text
-root_line names root = line (codes "GROUP") (root ∷ or_hyphen (name_of names root) ∷ [])
+root_line names root = report_line (codes "GROUP") (root ∷ or_hyphen (name_under names root) ∷ [])
 
 -- The line of a member: its depth, its LEI, the LEI of its direct parent, and its name.
 abbrev pub member_line : GroupTable → Member → Text
 member_line table member =
-    line (decimal member.depth)
-    (member.lei ∷ or_hyphen (up table.links member.lei 1) ∷ or_hyphen (name_of table.names member.lei) ∷ [])
+    report_line (decimal member.depth)
+    (member.lei ∷ or_hyphen (entity_above table.links member.lei 1) ∷ or_hyphen (name_under table.names member.lei) ∷ [])
 
 -- The lines of the members.
 abbrev pub member_lines : GroupTable → Lei → Text
@@ -40,20 +40,20 @@ member_lines table root = flat_map (member_line table) (all_members table.links 
 
 -- The line with the number of members.
 abbrev pub members_line : ℕ → Text
-members_line count = line (codes "members") (decimal count ∷ [])
+members_line count = report_line (codes "members") (decimal count ∷ [])
 
 -- ---- disagreements
 
 -- The line of an entity that disagrees: the reported ultimate parent, and the computed one.
 abbrev pub disagreement_line : List Link → Lei → Text
 disagreement_line links lei =
-    line (codes "DISAGREES") (lei ∷ or_hyphen (reported links lei) ∷ or_hyphen (top links lei) ∷ [])
+    report_line (codes "DISAGREES") (lei ∷ or_hyphen (reported links lei) ∷ or_hyphen (top links lei) ∷ [])
 
 -- The lines of those entities that disagree, and a line with their number.
 abbrev pub disagreement_lines : List Link → List Lei → Text
 disagreement_lines links leis =
     flat_map (disagreement_line links) (filter (disagrees links) leis)
-    ++ line (codes "disagreements") (decimal (length (filter (disagrees links) leis)) ∷ [])
+    ++ report_line (codes "disagreements") (decimal (length (filter (disagrees links) leis)) ∷ [])
 
 -- ---- the texts
 

@@ -4,7 +4,7 @@ ghost use Rattle.std.specs.List.{All};
 ghost use Rattle.std.specs.Set.{is_member};
 ghost use Rattle.std.specs.Str.{bytes_eq};
 ghost use Rattle.lei_records.specs.Rows.{text_at};
-ghost use Rattle.copy_csv.specs.Rows.{IsRowOf};
+ghost use Rattle.copy_csv.specs.Rows.{IsRowOfSheet};
 ghost use Rattle.register_words.specs.declared.sheets.Sheet.{Sheet as DeclaredSheet};
 ghost use Rattle.group_reports.specs.Arcs as spec_arcs;
 ghost use Rattle.group_reports.specs.Links as spec;
@@ -26,10 +26,11 @@ pub struct Arc {
 
 /// The arcs of rows of `rr`. The places are those of the LEIs in them.
 pub fn arcs_of(alloc: Global, places: &Places, rows: &[Row]) -> Result<Vec<Arc>, NoMemory>
-    requires rows { All (IsRowOf DeclaredSheet.Rr) rows.now }
+    requires rows { All (IsRowOfSheet DeclaredSheet.Rr) rows.now }
     requires places { places.now ≡ leis_of (map spec.link_of rows.now) }
-    ensures links { IfOk result (λ made. map (spec_arcs.link_at places.now) made.items ≡ map spec.link_of rows.now) }
-    ensures within { IfOk result (λ made. All (spec_arcs.IsWithin (length places.now)) made.items) }
+    ensures links { IfOk result (λ made. map (spec_arcs.link_at places.now) made.items
+        ≡ map spec.link_of rows.now) }
+    ensures within { IfOk result (λ made. All (spec_arcs.HasPlacesBelow (length places.now)) made.items) }
 {
     let mut made = Vec::with_capacity(alloc, rows.len())?;
     for row in rows {
@@ -44,7 +45,7 @@ fn arc_of(places: &Places, row: &Row) -> Arc
     requires start { is_member bytes_eq places.now (text_at row.now.texts 1) ≡ true }
     requires end { is_member bytes_eq places.now (text_at row.now.texts 3) ≡ true }
     ensures link { spec_arcs.link_at places.now result ≡ spec.link_of row.now }
-    ensures within { spec_arcs.IsWithin (length places.now) result }
+    ensures within { spec_arcs.HasPlacesBelow (length places.now) result }
 {
     let is_relation = row.sheet() == Sheet::Rr;
     prove!(is_relation);
@@ -74,7 +75,7 @@ pub fn first_ends(
     arcs: &[Arc],
     kind: LinkKind,
 ) -> Result<Vec<Option<usize>>, NoMemory>
-    requires { All (spec_arcs.IsWithin count) arcs.now }
+    requires { All (spec_arcs.HasPlacesBelow count) arcs.now }
     ensures ends { IfOk result (λ ends. spec_arcs.AreFirstEnds count arcs.now kind ends.items) }
     ensures within { IfOk result (λ ends. LeadsWithin ends.items) }
 {
@@ -90,7 +91,7 @@ pub fn first_ends(
 
 // Whether a kind is the wanted one, for a direct or an ultimate parent.
 fn is_of(wanted: LinkKind, kind: LinkKind) -> bool
-    ensures { result ≡ spec_arcs.is_of wanted kind }
+    ensures { result ≡ spec_arcs.is_wanted_kind wanted kind }
 {
     matches!(
         (wanted, kind),

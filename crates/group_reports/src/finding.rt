@@ -1,13 +1,13 @@
 //! A search among texts in byte order.
-ghost use Rattle.group_reports.specs.Places.{AreInOrder, IsPlaceOf};
+ghost use Rattle.group_reports.specs.Places.{AreSortedLeis, IsLeiPlace};
 
 use copy_csv::Texts;
 use std::cmp::Ordering;
 
 /// The place of an LEI among others in byte order, counted from 0, if it is there.
 pub fn find(leis: &Texts, lei: &str) -> Option<usize>
-    requires { AreInOrder leis.now }
-    ensures { IsPlaceOf leis.now lei.now result }
+    requires { AreSortedLeis leis.now }
+    ensures { IsLeiPlace leis.now lei.now result }
 {
     let mut low = 0;
     let mut high = leis.len();

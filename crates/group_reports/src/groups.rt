@@ -3,7 +3,7 @@ ghost use Rattle.std.specs.Prelude.{◌≡◌, IfErr, IfOk, IsErrOf, IsSome, Non
 ghost use Rattle.register_words.specs.declared.sheets.Sheet.{Sheet as DeclaredSheet};
 ghost use Rattle.copy_csv.specs.Rows.{AreRows};
 ghost use Rattle.group_reports.specs.declared.faults.ReportFault.{ReportFault as Reporting};
-ghost use Rattle.group_reports.specs.Links.{IsRefusal, IsTableOf, name_at, publication_in};
+ghost use Rattle.group_reports.specs.Links.{IsGroupFault, IsGroupTable, head_publication, name_at};
 ghost use Rattle.group_reports.specs.Reports as spec;
 
 use crate::faults::{GroupFault, ReportFault};
@@ -40,9 +40,9 @@ impl Groups {
         requires lei { AreRows DeclaredSheet.Lei lei.now.rows }
         requires rr { AreRows DeclaredSheet.Rr rr.now.rows }
         requires form { is_some lei.now.head ≡ is_some rr.now.head }
-        ensures rows { IfOk result (λ groups. IsTableOf lei.now.rows rr.now.rows groups) }
-        ensures publication { OnOk result (publication_in lei.now.head ≡ publication_in rr.now.head) }
-        ensures refusal { IfErr result (IsRefusal lei.now.head rr.now.head) }
+        ensures rows { IfOk result (λ groups. IsGroupTable lei.now.rows rr.now.rows groups) }
+        ensures publication { OnOk result (head_publication lei.now.head ≡ head_publication rr.now.head) }
+        ensures refusal { IfErr result (IsGroupFault lei.now.head rr.now.head) }
     {
         check(&lei.head, &rr.head)?;
         let names = Names::of(alloc, lei.rows.as_slice())?;

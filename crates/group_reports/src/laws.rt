@@ -3,7 +3,7 @@ ghost use Rattle.std.specs.Prelude.{◌≡◌, ◌≢◌, ◌↔◌, List as Ite
 ghost use Rattle.std.specs.List.{Contains, IsDistinct};
 ghost use Rattle.std.specs.Str.{bytes_eq};
 ghost use Rattle.lei_code.specs.Texts.{Lei};
-ghost use Rattle.group_reports.specs.Groups.{Leads, members};
+ghost use Rattle.group_reports.specs.Groups.{LeadsUpTo, members};
 ghost use Rattle.group_reports.specs.Links.{Link};
 
 /// An entity other than the root is a member exactly if a chain of direct parents leads from it to the root, however
@@ -11,7 +11,7 @@ ghost use Rattle.group_reports.specs.Links.{Link};
 /// entity.
 pub fn members_are_those_with_a_chain()
     ensures chain { (links : Items Link) (root lei : Lei) → lei ≢ root
-        → Contains (members links root) lei ↔ Leads links lei root }
+        → Contains (members links root) lei ↔ LeadsUpTo links lei root }
     ensures root { (links : Items Link) (root : Lei) → ¬ Contains (members links root) root }
     ensures once { (links : Items Link) (root : Lei) → IsDistinct bytes_eq (members links root) }
 {}

@@ -7,7 +7,7 @@ use lei_outside::NoMemory;
 /// Appends a line with a first word and others.
 pub fn put_line(out: &mut Vec<u8>, first: &str, others: &[&str]) -> Result<(), NoMemory>
     ensures { OnOk result
-        (out.new.items ≡ out.old.items ++ spec.line first.now (map (λ word. word.now) others.now)) }
+        (out.new.items ≡ out.old.items ++ spec.report_line first.now (map (λ word. word.now) others.now)) }
 {
     out.extend_from_slice(first.as_bytes())?;
     put_words(out, others)?;

@@ -1,17 +1,17 @@
 //! Rows of a golden copy of `rr` as links between entities.
 ghost use Rattle.std.specs.Prelude.{◌≡◌, ◌<◌, length, map, option_map, IfOk};
 ghost use Rattle.std.specs.List.{All};
-ghost use Rattle.copy_csv.specs.Rows.{IsRowOf};
+ghost use Rattle.copy_csv.specs.Rows.{IsRowOfSheet};
 ghost use Rattle.register_words.specs.declared.sheets.Sheet.{Sheet as DeclaredSheet};
 ghost use Rattle.group_reports.specs.Groups as groups;
 ghost use Rattle.group_reports.specs.Links as spec;
-ghost use Rattle.group_reports.specs.Places.{AreBelow, Finds, IsBelow, IsPlaceOf, are_same, at, at_some, leis_of, places_in_order};
+ghost use Rattle.group_reports.specs.Places.{AreBelow, FindsEach, IsBelow, IsLeiPlace, are_same, at, at_some, leis_of, places_in_order};
 
 use crate::arcs::{Arc, arcs_of, first_ends};
 use crate::kinds::LinkKind;
 use crate::places::Places;
 use crate::tops::tops_of;
-use crate::tree::{Tree, add_place, listed};
+use crate::tree::{Tree, add_place, list_of};
 use copy_csv::Row;
 use lei_outside::{List, NoMemory};
 use std::alloc::Global;
@@ -38,20 +38,21 @@ pub struct Links {
 impl Model for Links {
     ghost use Rattle.std.specs.Prelude.{map};
     ghost use Rattle.group_reports.specs.Links.{link_of};
-    ghost use Rattle.group_reports.specs.Indexed.{IsIndexed, LinkTable};
+    ghost use Rattle.group_reports.specs.Indexed.{LinkTable, LinksAreIndexed};
 
     ghost Value = { LinkTable };
 
     ghost view = { λ links. record { links = map link_of links.rows.value; leis = links.places } };
 
-    ghost invariant = { λ links. IsIndexed (map link_of links.rows.value) links.count links.places links.starts.items
+    ghost invariant = { λ links. LinksAreIndexed
+        (map link_of links.rows.value) links.count links.places links.starts.items
         links.tree links.ultimates.items links.tops.items };
 }
 
 impl Links {
     /// The links of rows of `rr`.
     pub fn of(alloc: Global, rows: &List<Row>) -> Result<Self, NoMemory>
-        requires { All (IsRowOf DeclaredSheet.Rr) rows.now }
+        requires { All (IsRowOfSheet DeclaredSheet.Rr) rows.now }
         ensures { IfOk result (λ links. links.links ≡ map spec.link_of rows.now) }
     {
         let count = rows.len();
@@ -82,7 +83,7 @@ impl Links {
 
     /// The place of an LEI, if a link starts or ends there.
     pub fn find(&self, lei: &str) -> Option<usize>
-        ensures place { IsPlaceOf self.now.leis lei.now result }
+        ensures place { IsLeiPlace self.now.leis lei.now result }
         ensures leis { self.now.leis ≡ leis_of self.now.links }
     {
         self.places.find(lei)
@@ -107,7 +108,7 @@ impl Links {
 
     /// The direct parents.
     pub fn tree(&self) -> &Tree
-        ensures parents { Finds self.now.leis result.now (spec.direct self.now.links) }
+        ensures parents { FindsEach self.now.leis result.now (spec.direct self.now.links) }
         ensures leis { self.now.leis ≡ leis_of self.now.links }
     {
         &self.tree
@@ -176,5 +177,5 @@ fn starts_of(alloc: Global, arcs: &[Arc]) -> Result<Vec<usize>, NoMemory>
     for arc in arcs {
         add_place(&mut starts, arc.start)?;
     }
-    listed(alloc, starts)
+    list_of(alloc, starts)
 }

@@ -6,7 +6,7 @@ ghost use Rattle.group_reports.specs.Listings.{all_members, member_at, placed_at
 ghost use Rattle.group_reports.specs.Places.{AreBelow, at, places_in_order};
 
 use crate::links::Links;
-use crate::tree::{add_place, listed};
+use crate::tree::{add_place, list_of};
 use lei_outside::NoMemory;
 use std::alloc::Global;
 use std::collections::BTreeSet;
@@ -24,7 +24,8 @@ pub fn members(alloc: Global, links: &Links, root: usize) -> Result<Vec<Placed>,
     requires { root < length links.now.leis }
     ensures members { IfOk result (λ made. map (member_at links.now.leis) made.items
         ≡ all_members links.now.links (at links.now.leis root)) }
-    ensures below { IfOk result (λ made. AreBelow (length links.now.leis) (map (λ member. member.place) made.items)) }
+    ensures below { IfOk result
+        (λ made. AreBelow (length links.now.leis) (map (λ member. member.place) made.items)) }
 {
     let mut made = Vec::new(alloc);
     let mut level = vec![in alloc; root]?;
@@ -55,12 +56,13 @@ fn add_level(made: &mut Vec<Placed>, level: &[usize], depth: usize) -> Result<()
 
 /// The places of a root and of the members of its group, in order.
 pub fn group_of(alloc: Global, root: usize, members: &[Placed]) -> Result<Vec<usize>, NoMemory>
-    ensures { IfOk result (λ made. made.items ≡ places_in_order (root ∷ map (λ member. member.place) members.now)) }
+    ensures { IfOk result (λ made. made.items
+        ≡ places_in_order (root ∷ map (λ member. member.place) members.now)) }
 {
     let mut made = BTreeSet::new(alloc);
     add_place(&mut made, root)?;
     for member in members {
         add_place(&mut made, member.place)?;
     }
-    listed(alloc, made)
+    list_of(alloc, made)
 }

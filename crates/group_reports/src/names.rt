@@ -3,10 +3,10 @@ ghost use Rattle.std.specs.Prelude.{◌≡◌, ◌≤◌, map, option_map, IfOk}
 ghost use Rattle.std.specs.List.{All};
 ghost use Rattle.lei_records.specs.Rows.{text_at};
 ghost use Rattle.register_words.specs.declared.sheets.Sheet.{Sheet as DeclaredSheet};
-ghost use Rattle.copy_csv.specs.Rows.{AreRows, IsRowOf};
+ghost use Rattle.copy_csv.specs.Rows.{AreRows, IsRowOfSheet};
 ghost use Rattle.group_reports.specs.Links as spec;
 ghost use Rattle.group_reports.specs.Named.{AreNamed};
-ghost use Rattle.group_reports.specs.Reports.{name_of, or_hyphen as spec_or_hyphen};
+ghost use Rattle.group_reports.specs.Reports.{name_under, or_hyphen as spec_or_hyphen};
 
 use crate::finding::find;
 use copy_csv::{Row, Sheet, Texts};
@@ -37,7 +37,7 @@ impl Names {
     /// The names of rows of `lei`.
     pub fn of(alloc: Global, rows: &[Row]) -> Result<Self, NoMemory>
         requires { AreRows DeclaredSheet.Lei rows.now }
-        ensures { IfOk result (λ names. names ≡ map spec.named rows.now) }
+        ensures { IfOk result (λ names. names ≡ map spec.key_and_name rows.now) }
     {
         let leis = texts_of(alloc, rows, 1)?;
         let texts = texts_of(alloc, rows, 2)?;
@@ -58,7 +58,7 @@ impl Names {
 
     /// The name of an entity, or a hyphen if there is none.
     pub fn or_hyphen(&self, lei: &str) -> &str
-        ensures { result.now ≡ spec_or_hyphen (name_of self.now lei.now) }
+        ensures { result.now ≡ spec_or_hyphen (name_under self.now lei.now) }
     {
         let Some(name) = self.name_at(lei) else {
             return "-";
@@ -72,7 +72,7 @@ impl Names {
 
 // The texts at one position of the rows of `lei`.
 fn texts_of(alloc: Global, rows: &[Row], place: usize) -> Result<Texts, NoMemory>
-    requires rows { All (IsRowOf DeclaredSheet.Lei) rows.now }
+    requires rows { All (IsRowOfSheet DeclaredSheet.Lei) rows.now }
     requires first { 1 ≤ place }
     requires last { place ≤ 2 }
     ensures { IfOk result (λ texts. texts ≡ map (λ row. text_at row.texts place) rows.now) }

@@ -8,8 +8,8 @@ use copy_csv::Head;
 /// Whether two copies go together: if both have a head, they must have the same publication.
 pub fn check(lei: &Option<Head>, rr: &Option<Head>) -> Result<(), GroupFault>
     requires { is_some lei.now ≡ is_some rr.now }
-    ensures ok { OnOk result (spec.publication_in lei.now ≡ spec.publication_in rr.now) }
-    ensures refusal { IfErr result (spec.IsRefusal lei.now rr.now) }
+    ensures ok { OnOk result (spec.head_publication lei.now ≡ spec.head_publication rr.now) }
+    ensures refusal { IfErr result (spec.IsGroupFault lei.now rr.now) }
 {
     if let (Some(first), Some(second)) = (lei, rr) {
         if first.publication != second.publication {

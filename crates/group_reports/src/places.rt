@@ -5,9 +5,9 @@ ghost use Rattle.std.specs.Cmp.Lexicographic.{slice_cmp};
 ghost use Rattle.std.specs.Ordering.{nat_cmp};
 ghost use Rattle.std.specs.List.{All};
 ghost use Rattle.register_words.specs.declared.sheets.Sheet.{Sheet as DeclaredSheet};
-ghost use Rattle.copy_csv.specs.Rows.{IsRowOf};
+ghost use Rattle.copy_csv.specs.Rows.{IsRowOfSheet};
 ghost use Rattle.group_reports.specs.Links as spec;
-ghost use Rattle.group_reports.specs.Places.{AreInOrder, IsPlaceOf, at, ends_of, leis_of};
+ghost use Rattle.group_reports.specs.Places.{AreSortedLeis, IsLeiPlace, at, ends_of, leis_of};
 
 use crate::entity::{Entity, add};
 use crate::finding::find;
@@ -27,19 +27,19 @@ pub struct Places {
 impl Model for Places {
     ghost use Rattle.std.specs.Prelude.{List};
     ghost use Rattle.lei_code.specs.Texts.{Lei};
-    ghost use Rattle.group_reports.specs.Places.{AreInOrder};
+    ghost use Rattle.group_reports.specs.Places.{AreSortedLeis};
 
     ghost Value = { List Lei };
 
     ghost view = { λ places. places.leis };
 
-    ghost invariant = { λ places. AreInOrder places.leis };
+    ghost invariant = { λ places. AreSortedLeis places.leis };
 }
 
 impl Places {
     /// The LEIs that rows of `rr` start or end at.
     pub fn of(alloc: Global, rows: &[Row]) -> Result<Self, NoMemory>
-        requires { All (IsRowOf DeclaredSheet.Rr) rows.now }
+        requires { All (IsRowOfSheet DeclaredSheet.Rr) rows.now }
         ensures { IfOk result (λ places. places ≡ leis_of (map spec.link_of rows.now)) }
     {
         let mut entities = BTreeSet::new(alloc);
@@ -70,7 +70,7 @@ impl Places {
 
     /// The place of an LEI, if it is there.
     pub fn find(&self, lei: &str) -> Option<usize>
-        ensures { IsPlaceOf self.now lei.now result }
+        ensures { IsLeiPlace self.now lei.now result }
     {
         find(&self.leis, lei)
     }
@@ -92,7 +92,7 @@ fn add_ends(alloc: Global, entities: &mut BTreeSet<Entity>, row: &Row) -> Result
 // The LEIs of entities, in one piece of memory.
 fn texts_of(alloc: Global, entities: BTreeSet<Entity>) -> Result<Texts, NoMemory>
     ensures texts { IfOk result (λ texts. texts ≡ entities.keys) }
-    ensures order { IfOk result (λ texts. AreInOrder texts) }
+    ensures order { IfOk result (λ texts. AreSortedLeis texts) }
 {
     let mut texts = Texts::new(alloc);
     for entity in entities {

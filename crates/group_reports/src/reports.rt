@@ -81,7 +81,8 @@ pub fn put_disagreements(out: &mut Vec<u8>, links: &Links, places: &[usize]) -> 
 // Appends the lines of those that disagree, and counts them.
 fn put_disagreeing(out: &mut Vec<u8>, links: &Links, places: &[usize]) -> Result<usize, NoMemory>
     requires { AreBelow (length links.now.leis) places.now }
-    ensures out { OnOk result (out.new.items ≡ out.old.items ++ flat_map (spec.disagreement_line links.now.links)
+    ensures out { OnOk result (out.new.items ≡ out.old.items
+        ++ flat_map (spec.disagreement_line links.now.links)
         (filter (groups.disagrees links.now.links) (map (at links.now.leis) places.now))) }
     ensures count { IfOk result (λ count. count
         ≡ length (filter (groups.disagrees links.now.links) (map (at links.now.leis) places.now))) }

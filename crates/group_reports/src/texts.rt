@@ -22,7 +22,8 @@ pub fn group_text(
 ) -> Result<Bytes, NoMemory>
     requires { root < length links.now.leis }
     ensures { IfOk result (λ bytes. bytes
-        ≡ spec.group_report (record { names = names.now; links = links.now.links }) (at links.now.leis root)) }
+        ≡ spec.group_report (record { names = names.now; links = links.now.links })
+        (at links.now.leis root)) }
 {
     let members = members(alloc, links, root)?;
     let group = group_of(alloc, root, members.as_slice())?;

@@ -3,7 +3,7 @@ ghost use Rattle.std.specs.Prelude.{◌≡◌, ◌<◌, ◌==◌, ◌&&◌, ◌|
 ghost use Rattle.std.specs.BTreeSet.{insert_key};
 ghost use Rattle.std.specs.List.Sorted.{IsStrictlySortedBy};
 ghost use Rattle.std.specs.Ordering.{nat_cmp};
-ghost use Rattle.group_reports.specs.Places.{AreBelow, LeadsWithin, has_place, has_some, is_child, step};
+ghost use Rattle.group_reports.specs.Places.{AreBelow, LeadsWithin, has_place, has_some, is_child, step_up};
 
 use lei_outside::NoMemory;
 use std::alloc::Global;
@@ -67,7 +67,7 @@ impl Tree {
     pub fn children(&self, places: &[usize], root: usize) -> Result<Vec<usize>, NoMemory>
         requires { AreBelow (length self.now) places.now }
         ensures has { IfOk result (λ children. (place : ℕ) → has_place children.items place
-            ≡ (not (place == root) && has_some places.now (step self.now place))) }
+            ≡ (not (place == root) && has_some places.now (step_up self.now place))) }
         ensures below { IfOk result (λ children. AreBelow (length self.now) children.items) }
         ensures order { IfOk result (λ children. IsStrictlySortedBy nat_cmp children.items) }
     {
@@ -75,7 +75,7 @@ impl Tree {
         for parent in places {
             self.add_children(&mut children, *parent, root)?;
         }
-        listed(self.alloc, children)
+        list_of(self.alloc, children)
     }
 
     // Adds the children of a place, without the root.
@@ -125,7 +125,7 @@ pub fn add_place(places: &mut BTreeSet<usize>, place: usize) -> Result<(), NoMem
 }
 
 /// Places in order as a vector.
-pub fn listed(alloc: Global, places: BTreeSet<usize>) -> Result<Vec<usize>, NoMemory>
+pub fn list_of(alloc: Global, places: BTreeSet<usize>) -> Result<Vec<usize>, NoMemory>
     ensures places { IfOk result (λ made. made.items ≡ places.keys) }
     ensures order { IfOk result (λ made. IsStrictlySortedBy nat_cmp made.items) }
 {

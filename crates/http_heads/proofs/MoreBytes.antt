@@ -11,7 +11,7 @@ use Rattle.httparse.specs.declared.spans.HeaderSpan.{HeaderSpan}
 use Rattle.httparse.specs.declared.spans.RequestSpans.{RequestSpans}
 use Rattle.httparse.proofs.GrammarLemmas.{ReadsRequest-append}
 use Rattle.register_words.specs.declared.reply.Refusal.{Refusal}
-use Rattle.http_heads.specs.Heads.{IsFrontRead, IsHead, IsHeadRead, Tells, unfinished_read}
+use Rattle.http_heads.specs.Heads.{IsFrontRead, IsHead, IsHeadRead, ReportsHead, unfinished_read}
 use Rattle.http_heads.specs.declared.head.Head.{Head}
 use Rattle.http_heads.specs.declared.head.HeadRead.{HeadRead}
 
@@ -48,7 +48,7 @@ head_more bytes more head read is =
       fits = omega (arith, long, fits);
     }
 
-pub tells_more : (bytes more : List ℕ) (head : RequestHead) (read : HeadRead) → Tells bytes head read → Tells (bytes ++ more) head read
+pub tells_more : (bytes more : List ℕ) (head : RequestHead) (read : HeadRead) → ReportsHead bytes head read → ReportsHead (bytes ++ more) head read
 tells_more bytes more head HeadRead.More tells = absurd tells
 tells_more bytes more head (HeadRead.Bad fault) tells = tells
 tells_more bytes more head (HeadRead.Whole read) tells = (tells.0, head_more bytes more head read tells.1)
@@ -120,11 +120,11 @@ target_text front spans found (head, at) = subst (λ (l : List ℕ). IsUtf8 l) (
 
 -- what the head says in the front, it says in the bytes
 pub front_read : (bytes front : List ℕ) (spans : List HeaderSpan) (found : RequestSpans) (read : HeadRead) → front ≡ take 8192 bytes
-    → IsRequestOf front spans found → ((head : RequestHead) → IsRequestAt front spans found head → Tells front head read)
+    → IsRequestOf front spans found → ((head : RequestHead) → IsRequestAt front spans found head → ReportsHead front head read)
     → IsHeadRead bytes read
 front_read bytes front spans found read is (head, at) tells =
     let R : List ℕ → Type 0 = λ l. ReadsRequest l head (drop found.len front) in
-    let T : List ℕ → Type 0 = λ l. Tells l head read in
+    let T : List ℕ → Type 0 = λ l. ReportsHead l head read in
     let whole : front ++ drop 8192 bytes ≡ bytes =
     ap (λ (l : List ℕ). l ++ drop 8192 bytes) is ∙ take-append-drop 8192 bytes in
     inr (inr (

@@ -10,8 +10,8 @@ use Rattle.httparse.specs.Grammar.{LineEnd, RequestHead, crlf, lf, print_blank, 
 use Rattle.http_heads.proofs.MoreBytes as heads
 use Rattle.http_heads.proofs.MoreBytes.{range_more}
 use Rattle.http_heads.specs.Heads.{IsHead, IsHeadRead}
-use Rattle.http_heads.specs.Asking.{asked_of}
-use Rattle.http_heads.specs.Requests.{IsRead, asked_in, body_in, size_of, target_in}
+use Rattle.http_heads.specs.Asking.{asked_by_method}
+use Rattle.http_heads.specs.Requests.{IsRequestRead, asked_by_request, body_in, request_size, target_in}
 use Rattle.http_heads.specs.declared.head.Head.{Head}
 use Rattle.http_heads.specs.declared.head.HeadRead.{HeadRead}
 use Rattle.register_words.specs.declared.reply.Refusal.{Refusal}
@@ -33,14 +33,14 @@ head_in other (HeadRead.Whole head) = head
 -- the bytes start with a complete request
 pub record Whole (bytes : List ℕ) (head : Head) : Type 0 where
   pub read : IsHeadRead bytes (HeadRead.Whole head)
-  pub fits : size_of head ≤ length bytes
+  pub fits : request_size head ≤ length bytes
 
 abbrev if_there : Head → Bool → HeadRead
 if_there head there = if there then HeadRead.Whole head else HeadRead.More
 
 whole_by : (bytes : List ℕ) (head found : Head) → IsHeadRead bytes (HeadRead.Whole found)
-    → HeadRead.Whole head ≡ if_there found (nat_le (size_of found) (length bytes))
-    → (nat_le (size_of found) (length bytes) ≡ true) ⊎ (nat_le (size_of found) (length bytes) ≡ false) → Whole bytes head
+    → HeadRead.Whole head ≡ if_there found (nat_le (request_size found) (length bytes))
+    → (nat_le (request_size found) (length bytes) ≡ true) ⊎ (nat_le (request_size found) (length bytes) ≡ false) → Whole bytes head
 whole_by bytes head found is same (inl fits) =
     let both : HeadRead.Whole head ≡ HeadRead.Whole found = same ∙ ap (if_there found) fits in
     let one : head ≡ found = ap (head_in head) both in
@@ -50,25 +50,25 @@ whole_by bytes head found is same (inr less) =
     let both : HeadRead.Whole head ≡ HeadRead.More = same ∙ ap (if_there found) less in
     absurd (false≢true (sym (ap is_whole both)))
 
-pub whole_of : (bytes : List ℕ) (head : Head) → IsRead bytes (HeadRead.Whole head) → Whole bytes head
+pub whole_of : (bytes : List ℕ) (head : Head) → IsRequestRead bytes (HeadRead.Whole head) → Whole bytes head
 whole_of bytes head (HeadRead.More, is, same) = absurd (false≢true (sym (ap is_whole same)))
 whole_of bytes head (HeadRead.Bad fault, is, same) = absurd (false≢true (sym (ap is_whole same)))
 whole_of bytes head (HeadRead.Whole found, is, same) =
-    whole_by bytes head found is same (true_or_false (nat_le (size_of found) (length bytes)))
+    whole_by bytes head found is same (true_or_false (nat_le (request_size found) (length bytes)))
 
 -- what is read, by what the head says
 pub read_of : (bytes : List ℕ) (head : Head) → IsHeadRead bytes (HeadRead.Whole head)
-    → nat_le (size_of head) (length bytes) ≡ true → IsRead bytes (HeadRead.Whole head)
+    → nat_le (request_size head) (length bytes) ≡ true → IsRequestRead bytes (HeadRead.Whole head)
 read_of bytes head is fits = (HeadRead.Whole head, is, sym (ap (if_there head) fits))
 
 pub waits_of : (bytes : List ℕ) (head : Head) → IsHeadRead bytes (HeadRead.Whole head)
-    → nat_le (size_of head) (length bytes) ≡ false → IsRead bytes HeadRead.More
+    → nat_le (request_size head) (length bytes) ≡ false → IsRequestRead bytes HeadRead.More
 waits_of bytes head is less = (HeadRead.Whole head, is, sym (ap (if_there head) less))
 
-pub more_of : (bytes : List ℕ) → IsHeadRead bytes HeadRead.More → IsRead bytes HeadRead.More
+pub more_of : (bytes : List ℕ) → IsHeadRead bytes HeadRead.More → IsRequestRead bytes HeadRead.More
 more_of bytes is = (HeadRead.More, is, refl)
 
-pub bad_of : (bytes : List ℕ) (fault : Refusal) → IsHeadRead bytes (HeadRead.Bad fault) → IsRead bytes (HeadRead.Bad fault)
+pub bad_of : (bytes : List ℕ) (fault : Refusal) → IsHeadRead bytes (HeadRead.Bad fault) → IsRequestRead bytes (HeadRead.Bad fault)
 bad_of bytes fault is = (HeadRead.Bad fault, is, refl)
 
 -- ---- more bytes
@@ -76,12 +76,12 @@ bad_of bytes fault is = (HeadRead.Bad fault, is, refl)
 pub head_more : (bytes more : List ℕ) (head : Head) → IsHeadRead bytes (HeadRead.Whole head) → IsHeadRead (bytes ++ more) (HeadRead.Whole head)
 head_more bytes more head is = heads.read_more bytes more (HeadRead.Whole head) (λ other. false≢true (sym (ap is_whole other))) is
 
-pub read_more : (bytes more : List ℕ) (head : Head) → IsRead bytes (HeadRead.Whole head) → IsRead (bytes ++ more) (HeadRead.Whole head)
+pub read_more : (bytes more : List ℕ) (head : Head) → IsRequestRead bytes (HeadRead.Whole head) → IsRequestRead (bytes ++ more) (HeadRead.Whole head)
 read_more bytes more head read =
     let whole = whole_of bytes head read in
-    let within : size_of head ≤ length bytes = whole.fits in
+    let within : request_size head ≤ length bytes = whole.fits in
     let long : length (bytes ++ more) ≡ length bytes + length more = length-append bytes more in
-    let fits : nat_le (size_of head) (length (bytes ++ more)) ≡ true = grind (arith, nat_tests) in
+    let fits : nat_le (request_size head) (length (bytes ++ more)) ≡ true = grind (arith, nat_tests) in
     read_of (bytes ++ more) head (head_more bytes more head whole.read) fits
 
 abbrev is_bad : HeadRead → Bool
@@ -94,8 +94,8 @@ never_bad head true = refl
 never_bad head false = refl
 
 -- and a head that is refused stays so
-pub bad_more : (bytes more : List ℕ) (fault : Refusal) → IsRead bytes (HeadRead.Bad fault)
-    → IsRead (bytes ++ more) (HeadRead.Bad fault)
+pub bad_more : (bytes more : List ℕ) (fault : Refusal) → IsRequestRead bytes (HeadRead.Bad fault)
+    → IsRequestRead (bytes ++ more) (HeadRead.Bad fault)
 bad_more bytes more fault (HeadRead.More, is, same) = absurd (false≢true (sym (ap is_bad same)))
 bad_more bytes more fault (HeadRead.Bad found, is, same) = (
   HeadRead.Bad found,
@@ -103,15 +103,15 @@ bad_more bytes more fault (HeadRead.Bad found, is, same) = (
   same,
 )
 bad_more bytes more fault (HeadRead.Whole found, is, same) =
-    absurd (false≢true (sym (ap is_bad same ∙ never_bad found (nat_le (size_of found) (length bytes)))))
+    absurd (false≢true (sym (ap is_bad same ∙ never_bad found (nat_le (request_size found) (length bytes)))))
 
 -- a refused head has no body to wait for
-pub bad_of_read : (bytes : List ℕ) (fault : Refusal) → IsRead bytes (HeadRead.Bad fault) → IsHeadRead bytes (HeadRead.Bad fault)
+pub bad_of_read : (bytes : List ℕ) (fault : Refusal) → IsRequestRead bytes (HeadRead.Bad fault) → IsHeadRead bytes (HeadRead.Bad fault)
 bad_of_read bytes fault (HeadRead.More, is, same) = absurd (false≢true (sym (ap is_bad same)))
 bad_of_read bytes fault (HeadRead.Bad found, is, same) =
     let R : HeadRead → Type 0 = λ read. IsHeadRead bytes read in subst R (sym same) is
 bad_of_read bytes fault (HeadRead.Whole found, is, same) =
-    absurd (false≢true (sym (ap is_bad same ∙ never_bad found (nat_le (size_of found) (length bytes)))))
+    absurd (false≢true (sym (ap is_bad same ∙ never_bad found (nat_le (request_size found) (length bytes)))))
 
 -- ---- a head that was read
 
@@ -143,19 +143,19 @@ target_text bytes head read =
     subst (λ (l : List ℕ). IsUtf8 l) (sym is.target) is.text
 
 -- and so does the body
-body_more : (bytes more : List ℕ) (head : Head) → size_of head ≤ length bytes → body_in (bytes ++ more) head ≡ body_in bytes head
+body_more : (bytes more : List ℕ) (head : Head) → request_size head ≤ length bytes → body_in (bytes ++ more) head ≡ body_in bytes head
 body_more bytes more head fits =
     let within : head.body ≤ length (drop head.size bytes) = omega (arith, length-drop head.size bytes, fits) in
     ap (take head.body) (drop-append-le head.size bytes more (omega (arith, fits)))
     ∙ take-append-le head.body (drop head.size bytes) more within
 
 -- and what the complete request asks
-pub asked_more : (bytes more : List ℕ) (head : Head) → IsRead bytes (HeadRead.Whole head)
-    → asked_in (bytes ++ more) head ≡ asked_in bytes head
+pub asked_more : (bytes more : List ℕ) (head : Head) → IsRequestRead bytes (HeadRead.Whole head)
+    → asked_by_request (bytes ++ more) head ≡ asked_by_request bytes head
 asked_more bytes more head read =
     let whole = whole_of bytes head read in
-    ap (λ (target : List ℕ). asked_of head.method target (body_in (bytes ++ more) head)) (target_more bytes more head whole.read)
-    ∙ ap (asked_of head.method (target_in bytes head)) (body_more bytes more head whole.fits)
+    ap (λ (target : List ℕ). asked_by_method head.method target (body_in (bytes ++ more) head)) (target_more bytes more head whole.read)
+    ∙ ap (asked_by_method head.method (target_in bytes head)) (body_more bytes more head whole.fits)
 
 -- ---- a head has bytes
 

@@ -5,7 +5,7 @@ use Rattle.std.proofs.lemmas.List.Elements.{All-head, All-tail}
 use Rattle.std.specs.List.{flat_map}
 use Rattle.std.specs.Prelude.{Ok, Some}
 use Rattle.std.proofs.lemmas.Bool.Decides.{nat_tests}
-use Rattle.http_heads.specs.Heads.{fault_of}
+use Rattle.http_heads.specs.Heads.{head_fault}
 use Rattle.register_words.specs.declared.reply.Refusal.{Refusal}
 use Rattle.httparse.specs.Grammar.{Field, IsField, LineEnd, RequestHead, ReadsRequest, crlf, lf, print_blank, print_end, print_field, print_request, print_version}
 use Rattle.httparse.specs.Outcome.{IfComplete}
@@ -64,7 +64,7 @@ pub crowded_here : (front : List ℕ) (h : RequestHead) (rest : List ℕ) → Re
 crowded_here front h rest many reads = many [] h rest (subst (λ (l : List ℕ). ReadsRequest l h rest) (sym (append-nil front)) reads)
 
 -- and is refused for them
-pub too_many : (h : RequestHead) → 32 < length h.fields → fault_of h ≡ Some Refusal.HeadTooLong
+pub too_many : (h : RequestHead) → 32 < length h.fields → head_fault h ≡ Some Refusal.HeadTooLong
 too_many h many = grind (arith, nat_tests)
 
 -- what is said of a complete answer holds for its spans

@@ -5,7 +5,7 @@ use Rattle.std.specs.List.{list_all}
 use Rattle.lei_code.specs.Texts.{Lei}
 use Rattle.matchit.specs.Params.{named, walk}
 use Rattle.matchit.specs.Router.{RouteOf}
-use Rattle.register_words.specs.Words.{base_of, code_of, form_of, number_of, sheet_of}
+use Rattle.register_words.specs.Words.{base_named, form_named, lei_from, number_in_word, sheet_named}
 use Rattle.register_words.specs.declared.reply.Allowed.{Allowed}
 use Rattle.register_words.specs.declared.reply.Refusal.{Refusal}
 use Rattle.register_words.specs.declared.request.Asked.{Asked}
@@ -36,20 +36,20 @@ abbrev pub key_in : Words → Option (Lei × ℕ)
 key_in words = do
   lou ← named (codes "lou") words
   word ← named (codes "number") words
-  issuer ← code_of lou
-  number ← number_of word
+  issuer ← lei_from lou
+  number ← number_in_word word
   Some (issuer, number)
 
 -- To accredit an issuer.
 unfoldable pub accredit_in : Words → Option Request
 accredit_in words = do
   lou ← named (codes "lou") words
-  issuer ← code_of lou
+  issuer ← lei_from lou
   Some (Request.Accredit issuer)
 
 -- To take an upload with this body.
-unfoldable pub upload_in : Words → List ℕ → Option Request
-upload_in words body =
+unfoldable pub upload_with_body : Words → List ℕ → Option Request
+upload_with_body words body =
     option_map (λ key. Request.Upload (record { office = key.0; number = key.1; body = body })) (key_in words)
 
 -- To show the answer to an upload.
@@ -60,14 +60,14 @@ kept_in words = option_map (λ key. Request.Kept key.0 key.1) (key_in words)
 unfoldable pub publish_in : Words → Option Request
 publish_in words = do
   word ← named (codes "number") words
-  number ← number_of word
+  number ← number_in_word word
   Some (Request.Publish number)
 
 -- To show a record.
 unfoldable pub show_in : Words → Option Request
 show_in words = do
   word ← named (codes "lei") words
-  lei ← code_of word
+  lei ← lei_from word
   Some (Request.Show lei)
 
 -- To give a copy.
@@ -75,8 +75,8 @@ unfoldable pub copy_in : Words → Option Request
 copy_in words = do
   table ← named (codes "table") words
   word ← named (codes "form") words
-  sheet ← sheet_of table
-  form ← form_of word
+  sheet ← sheet_named table
+  form ← form_named word
   Some (Request.Copy sheet form)
 
 -- To give a delta.
@@ -85,9 +85,9 @@ delta_in words = do
   name ← named (codes "base") words
   table ← named (codes "table") words
   word ← named (codes "form") words
-  base ← base_of name
-  sheet ← sheet_of table
-  form ← form_of word
+  base ← base_named name
+  sheet ← sheet_named table
+  form ← form_named word
   Some (Request.Delta base sheet form)
 
 -- ---- what is asked
@@ -106,7 +106,7 @@ abbrev pub asked_at : Place → Method → Words → List ℕ → Asked
 asked_at Place.Issuer Method.Put words body = asks (accredit_in words)
 asked_at Place.Issuer Method.Get words body = other_method Allowed.Put
 asked_at Place.Issuer Method.Other words body = other_method Allowed.Put
-asked_at Place.Upload Method.Put words body = asks (upload_in words body)
+asked_at Place.Upload Method.Put words body = asks (upload_with_body words body)
 asked_at Place.Upload Method.Get words body = asks (kept_in words)
 asked_at Place.Upload Method.Other words body = other_method Allowed.GetPut
 asked_at Place.Publication Method.Put words body = asks (publish_in words)
@@ -131,5 +131,5 @@ asked_on None method path body = Asked.Refuse Refusal.NoRoute
 asked_on (Some route) method path body = asked_at route.value method (words_by route path) body
 
 -- What a method asks of a target, with this body.
-abbrev pub asked_of : Method → List ℕ → List ℕ → Asked
-asked_of method target body = asked_on (route_of (path_of target)) method (path_of target) body
+abbrev pub asked_by_method : Method → List ℕ → List ℕ → Asked
+asked_by_method method target body = asked_on (route_of (path_of target)) method (path_of target) body

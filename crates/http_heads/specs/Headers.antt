@@ -17,18 +17,18 @@ abbrev pub are_alike : List ℕ → List ℕ → Bool
 are_alike first second = bytes_eq (map to_ascii_lowercase first) (map to_ascii_lowercase second)
 
 -- The header has this name.
-abbrev pub has_name : List ℕ → Header → Bool
-has_name name header = are_alike header.0 name
+abbrev pub header_has_name : List ℕ → Header → Bool
+header_has_name name header = are_alike header.0 name
 
 -- The values of the headers with this name, in order.
 abbrev pub values_of : List ℕ → List Header → List (List ℕ)
-values_of name headers = map (λ header. header.1) (filter (has_name name) headers)
+values_of name headers = map (λ header. header.1) (filter (header_has_name name) headers)
 
 -- ---- Transfer-Encoding
 
 -- A header says how the body is coded.
 abbrev pub is_coded : List Header → Bool
-is_coded headers = list_any (has_name (codes "transfer-encoding")) headers
+is_coded headers = list_any (header_has_name (codes "transfer-encoding")) headers
 
 -- ---- Content-Length
 
@@ -65,7 +65,7 @@ has_close value = list_any (λ part. are_alike (trim_ows part) (codes "close")) 
 
 -- It is a Connection header that asks to close the connection after the answer.
 abbrev pub is_close : Header → Bool
-is_close header = has_name (codes "connection") header && has_close header.1
+is_close header = header_has_name (codes "connection") header && has_close header.1
 
 -- One of the headers asks to close.
 abbrev pub asks_to_close : List Header → Bool

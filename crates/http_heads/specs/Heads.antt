@@ -6,7 +6,7 @@ use Rattle.httparse.specs.Grammar.{HasNoRequest, MayBecomeRequest, NeverHasReque
 use Rattle.httparse.specs.Spans.{name_and_value}
 use Rattle.register_words.specs.declared.reply.Refusal.{Refusal}
 use Rattle.http_heads.specs.Headers.{Header, asks_to_close, content_length, header_facts}
-use Rattle.http_heads.specs.Routes.{path_of, place_of}
+use Rattle.http_heads.specs.Routes.{path_of, route_place}
 use Rattle.http_heads.specs.declared.head.Head.{Head}
 use Rattle.http_heads.specs.declared.head.HeadRead.{HeadRead}
 use Rattle.http_heads.specs.declared.headers.ContentLength.{ContentLength}
@@ -66,10 +66,10 @@ fault_by facts method place = first_fault (fault_of_headers facts) (fault_of_upl
 
 -- Why a complete head is refused, the first that applies: it has more than 32 headers; what the headers say; or it
 -- belongs to an upload without a length.
-abbrev pub fault_of : RequestHead → Option Refusal
-fault_of head =
+abbrev pub head_fault : RequestHead → Option Refusal
+head_fault head =
     if nat_lt 32 (length head.fields) then Some Refusal.HeadTooLong
-    else fault_by (header_facts (headers_of head)) (method_of head.method) (place_of (path_of head.target))
+    else fault_by (header_facts (headers_of head)) (method_of head.method) (route_place (path_of head.target))
 
 -- What was read is this head at the front of the bytes.
 pub record IsHead (bytes : List ℕ) (head : RequestHead) (read : Head) : Type 0 where
@@ -84,10 +84,10 @@ pub record IsHead (bytes : List ℕ) (head : RequestHead) (read : Head) : Type 0
   pub fits : read.size ≤ length bytes
 
 -- The reading reports this complete head: that it is refused, and why, or what it says.
-abbrev pub Tells : List ℕ → RequestHead → HeadRead → Type 0
-Tells bytes head HeadRead.More = ⊥
-Tells bytes head (HeadRead.Bad fault) = fault_of head ≡ Some fault
-Tells bytes head (HeadRead.Whole read) = (fault_of head ≡ None) × IsHead bytes head read
+abbrev pub ReportsHead : List ℕ → RequestHead → HeadRead → Type 0
+ReportsHead bytes head HeadRead.More = ⊥
+ReportsHead bytes head (HeadRead.Bad fault) = head_fault head ≡ Some fault
+ReportsHead bytes head (HeadRead.Whole read) = (head_fault head ≡ None) × IsHead bytes head read
 
 -- The reading of this many bytes, the first of which have no complete head and may have one later: 8,192 bytes have to
 -- be enough.
@@ -100,7 +100,7 @@ abbrev pub IsFrontRead : List ℕ → List ℕ → HeadRead → Type 0
 IsFrontRead front bytes read =
     (HasNoRequest front × MayBecomeRequest front × (read ≡ unfinished_read (length bytes)))
     ⊎ ((NeverHasRequest front × (read ≡ HeadRead.Bad Refusal.Head))
-    ⊎ ((head : RequestHead) × (rest : List ℕ) × ReadsRequest front head rest × Tells bytes head read))
+    ⊎ ((head : RequestHead) × (rest : List ℕ) × ReadsRequest front head rest × ReportsHead bytes head read))
 
 -- The reading of bytes with a head at the front, which is looked for within the first 8,192.
 abbrev pub IsHeadRead : List ℕ → HeadRead → Type 0

@@ -13,8 +13,8 @@ pub record RouteRow : Type 0 where
   pub place : Place
 
 -- A route of a router, written as a row.
-abbrev pub row_of : List ℕ × RouteOf Place → RouteRow
-row_of route = record {
+abbrev pub row_of_route : List ℕ × RouteOf Place → RouteRow
+row_of_route route = record {
   path = route.0;
   names = map (λ name. part_of route.1.text name.0 name.1) route.1.names;
   place = route.1.value;

@@ -42,5 +42,5 @@ abbrev pub route_of : List ℕ → Option (RouteOf Place)
 route_of path = first routes path
 
 -- The place of a path, if it has a route.
-abbrev pub place_of : List ℕ → Option Place
-place_of path = option_map (λ route. route.value) (route_of path)
+abbrev pub route_place : List ℕ → Option Place
+route_place path = option_map (λ route. route.value) (route_of path)

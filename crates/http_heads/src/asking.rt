@@ -4,7 +4,7 @@ ghost use Rattle.std.specs.Char.{is_ascii};
 ghost use Rattle.std.specs.List.{list_all};
 ghost use Rattle.matchit.specs.Params.{named, walk};
 ghost use Rattle.register_words.specs.Readings.{MayWantMemory};
-ghost use Rattle.http_heads.specs.Asking.{accredit_in, asked_at, asked_of, asks, copy_in, delta_in, key_in, kept_in, publish_in, show_in, upload_in};
+ghost use Rattle.http_heads.specs.Asking.{accredit_in, asked_at, asked_by_method, asks, copy_in, delta_in, key_in, kept_in, publish_in, show_in, upload_with_body};
 ghost use Rattle.http_heads.specs.Routes.{routes};
 
 use crate::routes::{Method, Place, path_of};
@@ -74,8 +74,8 @@ pub fn asked_of(
     body: &[u8],
 ) -> Result<Asked, NoMemory>
     requires { router.now ≡ routes }
-    ensures ok { IfOk result (λ asked. asked ≡ asked_of method target.now body.now) }
-    ensures err { OnErr result (MayWantMemory (asked_of method target.now body.now)) }
+    ensures ok { IfOk result (λ asked. asked ≡ asked_by_method method target.now body.now) }
+    ensures err { OnErr result (MayWantMemory (asked_by_method method target.now body.now)) }
 {
     let path = path_of(target);
     match router.at(path) {
@@ -105,7 +105,7 @@ fn asked_at(
     match (place, method) {
         (Place::Issuer, Method::Put) => Ok(asks(accredit(words))),
         (Place::Upload, Method::Put) => Ok(asks(upload(alloc, words, body)?)),
-        (Place::Upload, Method::Get) => Ok(asks(kept(words))),
+        (Place::Upload, Method::Get) => Ok(asks(kept_request(words))),
         (Place::Publication, Method::Put) => Ok(asks(publish(words))),
         (Place::Record, Method::Get) => Ok(asks(show(words))),
         (Place::Copy, Method::Get) => Ok(asks(copy(words))),
@@ -147,10 +147,10 @@ fn accredit(words: &Words<'_, '_>) -> Option<Request>
     Some(Request::Accredit(issuer))
 }
 
-#[tactic(auto, unfolding(crate::specs::Asking::upload_in))]
+#[tactic(auto, unfolding(crate::specs::Asking::upload_with_body))]
 fn upload(alloc: Global, words: &Words<'_, '_>, body: &[u8]) -> Result<Option<Request>, NoMemory>
-    ensures ok { IfOk result (λ request. request ≡ upload_in words.now body.now) }
-    ensures err { OnErr result (MayWantMemory (asks (upload_in words.now body.now))) }
+    ensures ok { IfOk result (λ request. request ≡ upload_with_body words.now body.now) }
+    ensures err { OnErr result (MayWantMemory (asks (upload_with_body words.now body.now))) }
 {
     match key_in(words) {
         Some((office, number)) => {
@@ -166,7 +166,7 @@ fn upload(alloc: Global, words: &Words<'_, '_>, body: &[u8]) -> Result<Option<Re
 }
 
 #[tactic(auto, unfolding(crate::specs::Asking::kept_in))]
-fn kept(words: &Words<'_, '_>) -> Option<Request>
+fn kept_request(words: &Words<'_, '_>) -> Option<Request>
     ensures { result ≡ kept_in words.now }
 {
     let (issuer, number) = key_in(words)?;

@@ -3,9 +3,9 @@ ghost use Rattle.std.specs.Prelude.{◌≡◌, ◌≤◌, length, slice_range, t
 ghost use Rattle.std.specs.Str.{IsUtf8};
 ghost use Rattle.httparse.specs.Grammar.{RequestHead};
 ghost use Rattle.httparse.specs.Spans.{IsRequestAt, IsRequestWithin, RequestOverflows};
-ghost use Rattle.http_heads.specs.Heads.{IsFrontRead, IsHeadRead, Tells, body_length, fault_by, fault_of_headers, fault_of_length, lacks_length, method_of, unfinished_read};
-ghost use Rattle.http_heads.specs.Requests.{IsRead, with_body};
-ghost use Rattle.http_heads.specs.Routes.{path_of, place_of, routes};
+ghost use Rattle.http_heads.specs.Heads.{IsFrontRead, IsHeadRead, ReportsHead, body_length, fault_by, fault_of_headers, fault_of_length, lacks_length, method_of, unfinished_read};
+ghost use Rattle.http_heads.specs.Requests.{IsRequestRead, with_body};
+ghost use Rattle.http_heads.specs.Routes.{path_of, route_place, routes};
 
 use crate::headers::{ContentLength, HeaderFacts, read_headers};
 use crate::routes::{Method, Place, path_of, place_of};
@@ -68,7 +68,7 @@ pub fn read_head(router: &Router<Place>, bytes: &[u8]) -> HeadRead
 /// Reads the request at the front of the bytes: `Whole` means that its body is there. It takes no memory.
 pub fn read_whole(router: &Router<Place>, bytes: &[u8]) -> HeadRead
     requires { router.now ≡ routes }
-    ensures { IsRead bytes.now result }
+    ensures { IsRequestRead bytes.now result }
 {
     let head = read_head(router, bytes);
     with_body(bytes.len(), head)
@@ -142,7 +142,7 @@ fn head_found(
     requires within { IsRequestWithin front.now spans.now found }
     requires text { IsUtf8 (slice_range front.now found.path.start found.path.end) }
     ensures { (head : RequestHead) → IsRequestAt front.now spans.now found head
-        → Tells front.now head result }
+        → ReportsHead front.now head result }
 {
     let facts = read_headers(front, &spans[..found.headers]);
     let method = method_of(found.method.of(front));
@@ -167,7 +167,7 @@ fn fault_by(
 ) -> Option<Refusal>
     requires routes { router.now ≡ routes }
     requires text { IsUtf8 target.now }
-    ensures { result ≡ fault_by facts method (place_of (path_of target.now)) }
+    ensures { result ≡ fault_by facts method (route_place (path_of target.now)) }
 {
     match fault_of_headers(facts) {
         Some(fault) => Some(fault),
@@ -204,7 +204,7 @@ fn fault_of_length(body: ContentLength) -> Option<Refusal>
 fn lacks_length(router: &Router<Place>, body: ContentLength, method: Method, target: &[u8]) -> bool
     requires routes { router.now ≡ routes }
     requires text { IsUtf8 target.now }
-    ensures { result ≡ lacks_length method (place_of (path_of target.now)) body }
+    ensures { result ≡ lacks_length method (route_place (path_of target.now)) body }
 {
     match (method, body) {
         (Method::Put, ContentLength::Absent) => {

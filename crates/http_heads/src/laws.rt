@@ -1,6 +1,6 @@
 //! What the texts of the crates `http` and `matchit` amount to here. Each law is proved, and its function does nothing.
 ghost use Rattle.std.specs.Prelude.{◌≡◌, codes, map};
-ghost use Rattle.http_heads.specs.Laws.{row_of, rows_in_order};
+ghost use Rattle.http_heads.specs.Laws.{row_of_route, rows_in_order};
 ghost use Rattle.http_heads.specs.Responses.{phrase_of};
 ghost use Rattle.http_heads.specs.Routes.{routes};
 
@@ -24,5 +24,5 @@ pub fn phrases_are_standard()
 /// The router has these paths, each with the names of its parameters and the place that it leads to, and no others.
 #[tactic(auto, unfolding(crate::specs::Routes::routes, crate::specs::Routes::with_route, matchit::proofs::OnLiterals::matchit_on_literals))]
 pub fn routes_have_these_paths()
-    ensures { map row_of routes ≡ rows_in_order }
+    ensures { map row_of_route routes ≡ rows_in_order }
 {}

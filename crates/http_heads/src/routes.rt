@@ -1,6 +1,6 @@
 //! The routes of requests, and the places that they lead to.
 ghost use Rattle.std.specs.Prelude.{◌≡◌, IfOk, OnOk};
-ghost use Rattle.http_heads.specs.Routes.{path_of, place_of, routes, with_route};
+ghost use Rattle.http_heads.specs.Routes.{path_of, route_place, routes, with_route};
 
 use lei_outside::NoMemory;
 use matchit::Router;
@@ -73,7 +73,7 @@ pub fn path_of(target: &str) -> &str
 /// The place of a path, if it has a route.
 pub fn place_of(router: &Router<Place>, path: &str) -> Option<Place>
     requires { router.now ≡ routes }
-    ensures { result ≡ place_of path.now }
+    ensures { result ≡ route_place path.now }
 {
     match router.at(path) {
         Ok(found) => Some(*found.value),

@@ -11,7 +11,7 @@ use Rattle.lei_hall.specs.Passes.{HallPass}
 use Rattle.lei_hall.proofs.Callers.{caller_fits, serves_keep, session_grew, session_same}
 use Rattle.issuer_http.specs.Callers.{ServesCaller}
 use Rattle.issuer_http.specs.Frames.{http_rules}
-use Rattle.issuer_http.specs.Serving.{CompletesBy, ServesBy, input_limit}
+use Rattle.issuer_http.specs.Serving.{CompletesBy, ServesBy, connection_limit}
 use Rattle.issuer_http.specs.declared.ended.Ended.{Ended}
 use Rattle.issuer_http.proofs.Offices.{frame_asked}
 
@@ -25,7 +25,7 @@ pub caller_serves : (before after : any.Progress HallPass) (left left_now : Opti
     → ServesBy AskTurn before left after left_now ended → ServesCaller before left after left_now ended
 caller_serves before after left left_now ended (end, is, serves) = record {
   serves = (end, is, serves);
-  same = serves_keep AskTurn http_rules IsSamePass session_same input_limit before left after left_now end serves;
+  same = serves_keep AskTurn http_rules IsSamePass session_same connection_limit before left after left_now end serves;
   grew = session_grew before.who after.who;
 }
 

@@ -2,7 +2,7 @@
 use Rattle.std.proofs.Common.{◌≡◌, ◌⊎◌, ℕ, ◌+◌, ◌<◌, ◌≤◌, List, [], ◌++◌, length, drop, true, false, Option, None, Some, inl, inr, refl, sym, ap, subst, arith}
 use Rattle.std.specs.Prelude.{is_some, nat_le}
 use Rattle.http_heads.specs.Heads.{IsHeadRead}
-use Rattle.http_heads.specs.Requests.{IsRead, asked_in, size_of}
+use Rattle.http_heads.specs.Requests.{IsRequestRead, asked_by_request, request_size}
 use Rattle.http_heads.specs.declared.head.Head.{Head}
 use Rattle.http_heads.specs.declared.head.HeadRead.{HeadRead}
 use Rattle.register_words.specs.Readings.{ReadsAs}
@@ -12,7 +12,7 @@ use Rattle.request_loop.specs.Frames.{ReadsFront}
 use Rattle.request_loop.specs.declared.frames.Front.{Front}
 use Rattle.request_loop.specs.declared.frames.Want.{Want}
 use Rattle.issuer_http.specs.Responses.{response_bytes}
-use Rattle.issuer_http.specs.Frames.{IsAwaited, end_of, holds_so, http_rules, refusal_want, want_of}
+use Rattle.issuer_http.specs.Frames.{IsAwaited, end_if_last, holds_so, http_rules, refusal_want, want_of_head}
 use Rattle.issuer_http.specs.declared.ended.HttpEnd.{HttpEnd}
 use Rattle.http_heads.proofs.Reading.{bad_of, head_more, head_some, read_of, waits_of, whole_of}
 
@@ -32,7 +32,7 @@ awaited_more held more None is = tt
 awaited_more held more (Some head) is = head_more held more head is
 
 -- no request is complete
-pub reads_more : (held : List ℕ) (awaited : Option Head) → IsRead held HeadRead.More → IsAwaited held awaited
+pub reads_more : (held : List ℕ) (awaited : Option Head) → IsRequestRead held HeadRead.More → IsAwaited held awaited
     → Reads awaited held (Front.More 0)
 reads_more held awaited read is = record {
   within = omega arith;
@@ -43,7 +43,7 @@ reads_more held awaited read is = record {
 
 -- the body isn't complete
 pub reads_head : (held : List ℕ) (head : Head) → IsHeadRead held (HeadRead.Whole head)
-    → nat_le (size_of head) (length held) ≡ false → Reads (Some head) held (Front.More 0)
+    → nat_le (request_size head) (length held) ≡ false → Reads (Some head) held (Front.More 0)
 reads_head held head read less = reads_more held (Some head) (waits_of held head read less) read
 
 -- a head is refused
@@ -64,17 +64,17 @@ reads_refusal held awaited fault want read awaits is =
 
 -- a request is complete
 pub reads_request : (held : List ℕ) (head : Head) (asked : Asked) (ends : Option HttpEnd) → IsHeadRead held (HeadRead.Whole head)
-    → nat_le (size_of head) (length held) ≡ true → (asked ≡ asked_in held head) ⊎ ReadsAs (asked_in held head) asked
-    → ends ≡ end_of head.last
+    → nat_le (request_size head) (length held) ≡ true → (asked ≡ asked_by_request held head) ⊎ ReadsAs (asked_by_request held head) asked
+    → ends ≡ end_if_last head.last
     → Reads None held (Front.Whole (Some (record { asked = asked; ends = ends })) (head.size + head.body))
 reads_request held head asked ends read there is same =
-    let whole : IsRead held (HeadRead.Whole head) = read_of held head read there in
+    let whole : IsRequestRead held (HeadRead.Whole head) = read_of held head read there in
     let some : 1 ≤ head.size = head_some held head read in
-    let fits : size_of head ≤ length held = (whole_of held head whole).fits in
+    let fits : request_size head ≤ length held = (whole_of held head whole).fits in
     record {
       within = fits;
       some = λ goes. omega (arith, some);
-      meant = Some (want_of held head);
+      meant = Some (want_of_head held head);
       whole = inl (head, whole, refl, refl);
       are_meant = record { asked = is; ends = same; text = λ reply. ap (λ (o : Option HttpEnd). response_bytes (is_some o) reply) same };
       holds = (refl, tt);

@@ -11,7 +11,7 @@ use Rattle.request_loop.specs.declared.frames.Want.{Want}
 use Rattle.request_loop.proofs.Parts.{completes_of, progress_of, serves_of}
 use Rattle.request_loop.proofs.Running.{ran_nothing}
 use Rattle.issuer_http.specs.Frames.{IsFrame, http_rules}
-use Rattle.issuer_http.specs.Serving.{Completes, CompletesBy, Progress, Serves, ServesBy, input_limit}
+use Rattle.issuer_http.specs.Serving.{CompletesBy, CompletesHttp, HttpProgress, ServesBy, ServesHttp, connection_limit}
 use Rattle.issuer_http.specs.declared.ended.Ended.{Ended}
 use Rattle.issuer_http.specs.declared.ended.HttpEnd.{HttpEnd}
 use Rattle.issuer_http.proofs.Ranging.{refusal_asked, request_asked}
@@ -34,11 +34,11 @@ http_fits Known part known =
 -- ---- what serving does
 
 -- for an office: what holds for the replies of any session
-serves_office : (before after : Progress) (left left_now : Option (List ℕ)) (ended : Ended)
-    → ServesBy OfficeStep before left after left_now ended → Serves before left after left_now ended
+serves_office : (before after : HttpProgress) (left left_now : Option (List ℕ)) (ended : Ended)
+    → ServesBy OfficeStep before left after left_now ended → ServesHttp before left after left_now ended
 serves_office before after left left_now ended serves = record {
   serves = serves;
-  untold = serves_untold (λ (who : CountedOffice). who) http_rules input_limit serves.0 before after left left_now serves.2;
+  untold = serves_untold (λ (who : CountedOffice). who) http_rules connection_limit serves.0 before after left left_now serves.2;
   refuses = office_counts before.who after.who;
   exact = office_exact before.who after.who;
 }
@@ -46,27 +46,27 @@ serves_office before after left left_now ended serves = record {
 -- by the steps of anyone who has an office
 pub office_serves : {A : Type 0} (part : A → CountedOffice) (before after : any.Progress A) (left left_now : Option (List ℕ))
     (ended : Ended) → ServesBy (StepsBy part) before left after left_now ended
-    → Serves (progress_of part before) left (progress_of part after) left_now ended
+    → ServesHttp (progress_of part before) left (progress_of part after) left_now ended
 office_serves part before after left left_now ended (end, is, serves) =
     serves_office (progress_of part before) (progress_of part after) left left_now ended (
       end,
       is,
-      serves_of (StepsBy part) part OfficeStep http_rules (λ old new ask moments reply step. step) input_limit end before after
+      serves_of (StepsBy part) part OfficeStep http_rules (λ old new ask moments reply step. step) connection_limit end before after
           left left_now serves,
     )
 
 pub office_completes : {A : Type 0} (part : A → CountedOffice) (before after : any.Progress A) (ended : Ended)
     (bytes : List ℕ) → CompletesBy (StepsBy part) ended before bytes after
-    → Completes ended (progress_of part before) bytes (progress_of part after)
+    → CompletesHttp ended (progress_of part before) bytes (progress_of part after)
 office_completes part before after ended bytes (end, is, completes) = (
   end,
   is,
-  completes_of (StepsBy part) part OfficeStep http_rules (λ old new ask moments reply step. step) input_limit end before after
+  completes_of (StepsBy part) part OfficeStep http_rules (λ old new ask moments reply step. step) connection_limit end before after
       bytes completes,
 )
 
 -- memory ran out at the start
-pub unbegun : (at : Progress) (left : Option (List ℕ)) → Serves at left at left Ended.NoMemory
+pub unbegun : (at : HttpProgress) (left : Option (List ℕ)) → ServesHttp at left at left Ended.NoMemory
 unbegun at left = serves_office at at left left Ended.NoMemory (
   loop.NoMemory,
   refl,

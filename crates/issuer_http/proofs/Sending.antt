@@ -13,7 +13,7 @@ use Rattle.http_heads.specs.Responses.{response_head}
 use Rattle.http_heads.specs.declared.responses.Content.{Content}
 use Rattle.register_words.specs.declared.reply.Allowed.{Allowed}
 use Rattle.request_loop.specs.Wires.{IsSent}
-use Rattle.issuer_http.specs.Responses.{content_of, methods_in, response_bytes}
+use Rattle.issuer_http.specs.Responses.{content_kind, methods_in, response_bytes}
 
 -- what holds for an Ok, if the result isn't an Err
 pub ok_of : {T E : Type 0} (P : Type 0) (result : Result T E) → is_err result ≡ false → OnOk result P → P
@@ -34,7 +34,7 @@ refusal_sent a b last refusal code size allow text result code_is text_is size_i
 
 -- the response to a reply with a text
 pub text_sent : {T E : Type 0} (a b : Option (List ℕ)) (last : Bool) (reply : Reply) (code size : ℕ) (kind : Kind)
-    (content : Content) (text piece : List ℕ) (result : Result T E) → reply ≡ Text code kind text → content ≡ content_of kind
+    (content : Content) (text piece : List ℕ) (result : Result T E) → reply ≡ Text code kind text → content ≡ content_kind kind
     → size ≡ length text → piece ≡ text
     → IsSent a b (response_head (record { code = code; content = content; size = size; allow = None; closes = last }) ++ piece) result
     → IsSent a b (response_bytes last reply) result

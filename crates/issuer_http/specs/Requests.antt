@@ -1,7 +1,7 @@
 -- What is reported of the request at the start of bytes. This project's profile.
 use Rattle.std.specs.Prelude.{◌≡◌, ℕ, List}
 use Rattle.register_words.specs.Readings.{MayWantMemory}
-use Rattle.http_heads.specs.Requests.{IsRead, asked_in, size_of}
+use Rattle.http_heads.specs.Requests.{IsRequestRead, asked_by_request, request_size}
 use Rattle.http_heads.specs.declared.head.Head.{Head}
 use Rattle.http_heads.specs.declared.head.HeadRead.{HeadRead}
 use Rattle.issuer_http.specs.declared.requests.HttpRead.{HttpRead}
@@ -10,13 +10,13 @@ use Rattle.issuer_http.specs.declared.requests.HttpRead.{HttpRead}
 abbrev pub answer_of : List ℕ → HeadRead → HttpRead
 answer_of bytes HeadRead.More = HttpRead.More
 answer_of bytes (HeadRead.Bad fault) = HttpRead.Bad fault
-answer_of bytes (HeadRead.Whole head) = HttpRead.One (asked_in bytes head) (size_of head) head.last
+answer_of bytes (HeadRead.Whole head) = HttpRead.One (asked_by_request bytes head) (request_size head) head.last
 
 -- The answer reports what is read at the front of the bytes: a complete request; or a head that is refused; or that
 -- more bytes are needed.
-abbrev pub IsNext : List ℕ → HttpRead → Type 0
-IsNext bytes answer = (read : HeadRead) × IsRead bytes read × (answer ≡ answer_of bytes read)
+abbrev pub IsNextRequest : List ℕ → HttpRead → Type 0
+IsNextRequest bytes answer = (read : HeadRead) × IsRequestRead bytes read × (answer ≡ answer_of bytes read)
 
 -- The bytes start with a complete upload.
 abbrev pub WantsBody : List ℕ → Type 0
-WantsBody bytes = (head : Head) × IsRead bytes (HeadRead.Whole head) × MayWantMemory (asked_in bytes head)
+WantsBody bytes = (head : Head) × IsRequestRead bytes (HeadRead.Whole head) × MayWantMemory (asked_by_request bytes head)

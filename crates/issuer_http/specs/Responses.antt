@@ -12,13 +12,13 @@ use Rattle.register_words.specs.declared.reply.Reply.{Reply}
 use Rattle.register_words.specs.declared.reply.Reply.TheVariants as replies
 
 -- The content that a kind of text is.
-abbrev pub content_of : Kind → Content
-content_of Kind.Json = Content.Json
-content_of Kind.Csv = Content.Csv
+abbrev pub content_kind : Kind → Content
+content_kind Kind.Json = Content.Json
+content_kind Kind.Csv = Content.Csv
 
 -- The content that the text of a reply is: a refusal is plain words.
 abbrev pub content_in : Reply → Content
-content_in (replies.Text code kind text) = content_of kind
+content_in (replies.Text code kind text) = content_kind kind
 content_in (replies.Words refusal) = Content.Plain
 
 -- If the request's route doesn't have its method, the methods of the route.

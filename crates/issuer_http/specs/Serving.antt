@@ -20,8 +20,8 @@ use Rattle.issuer_http.specs.declared.ended.Ended.{Ended}
 use Rattle.issuer_http.specs.declared.ended.HttpEnd.{HttpEnd}
 
 -- A connection is served until it has taken 1,073,741,824 bytes (1 GiB). This project's profile.
-abbrev pub input_limit : ℕ
-input_limit = 1_073_741_824
+abbrev pub connection_limit : ℕ
+connection_limit = 1_073_741_824
 
 -- How serving ends, by the words of any session: at the end of the input a connection counts as closed, too.
 abbrev pub ended_of : loop.Ended HttpEnd → Ended
@@ -50,7 +50,7 @@ abbrev pub ServesBy : {A : Type 0} → (A → Asked → List ℤ → Reply → A
     → any.Progress A → Option (List ℕ) → Ended → Type 0
 ServesBy step before left after left_now ended =
     (end : loop.Ended HttpEnd) × (ended ≡ ended_of end)
-    × any.Serves step http_rules input_limit before left after left_now end
+    × any.Serves step http_rules connection_limit before left after left_now end
 
 -- The result for a link with these bytes left, if neither of its directions fails and memory never runs out. All bytes
 -- were taken, and all complete requests answered, or those up to the first that asks to close or whose head is refused.
@@ -60,18 +60,18 @@ abbrev pub CompletesBy : {A : Type 0} → (A → Asked → List ℤ → Reply �
     → any.Progress A → Type 0
 CompletesBy step ended before bytes after =
     (end : loop.Ended HttpEnd) × (ended ≡ ended_of end)
-    × any.Completes step http_rules input_limit end before bytes after
+    × any.Completes step http_rules connection_limit end before bytes after
 
 -- ---- an office
 
 -- The progress of serving: the office with what its keeper tells and the keeper's count, the moments that the clock has
 -- given, and the bytes that were written. `None` means a device that doesn't tell it.
-abbrev pub Progress : Type 0
-Progress = any.Progress CountedOffice
+abbrev pub HttpProgress : Type 0
+HttpProgress = any.Progress CountedOffice
 
 -- The progress of these five.
-abbrev pub progress : OfficeState → Option KeptTables → ℕ → Option (List ℤ) → Option (List ℕ) → Progress
-progress office kept faults given written = record {
+abbrev pub http_progress : OfficeState → Option KeptTables → ℕ → Option (List ℤ) → Option (List ℕ) → HttpProgress
+http_progress office kept faults given written = record {
   who = record { office = office; kept = kept; faults = faults };
   given = given;
   written = written;
@@ -81,7 +81,7 @@ progress office kept faults given written = record {
 -- for any session that leads from the office before to the office after. At most as many of its replies are
 -- KEEPER_FAULT as calls of the keeper have failed. If none failed and memory never ran out, the replies are those that
 -- the requests and the moments determine.
-pub record Serves (before : Progress) (left : Option (List ℕ)) (after : Progress) (left_now : Option (List ℕ))
+pub record ServesHttp (before : HttpProgress) (left : Option (List ℕ)) (after : HttpProgress) (left_now : Option (List ℕ))
     (ended : Ended) : Type 0 where
   pub serves : ServesBy OfficeStep before left after left_now ended
   pub untold : StaysUntold before.who.kept after.who.kept
@@ -94,5 +94,5 @@ pub record Serves (before : Progress) (left : Option (List ℕ)) (after : Progre
       → replies ≡ replies_to before.who.office asks moments
 
 -- The result for a link that doesn't fail, over an office.
-abbrev pub Completes : Ended → Progress → List ℕ → Progress → Type 0
-Completes ended before bytes after = CompletesBy OfficeStep ended before bytes after
+abbrev pub CompletesHttp : Ended → HttpProgress → List ℕ → HttpProgress → Type 0
+CompletesHttp ended before bytes after = CompletesBy OfficeStep ended before bytes after

@@ -1,12 +1,12 @@
 //! The requests of a connection, as the frames of its bytes.
 ghost use Rattle.std.specs.Prelude.{◌≡◌, ◌⊎◌, [], None, nat_le};
 ghost use Rattle.http_heads.specs.Heads.{IsHeadRead};
-ghost use Rattle.http_heads.specs.Requests.{IsRead, asked_in, size_of};
+ghost use Rattle.http_heads.specs.Requests.{IsRequestRead, asked_by_request, request_size};
 ghost use Rattle.http_heads.specs.Routes.{routes};
 ghost use Rattle.http_heads.specs.declared.head.HeadRead.{HeadRead};
 ghost use Rattle.register_words.specs.Readings.{ReadsAs};
 ghost use Rattle.request_loop.specs.Frames.{ReadsFront};
-ghost use Rattle.issuer_http.specs.Frames.{IsAwaited, end_of, holds_so, http_rules, refusal_want};
+ghost use Rattle.issuer_http.specs.Frames.{IsAwaited, end_if_last, holds_so, http_rules, refusal_want};
 
 use crate::ended::HttpEnd;
 use crate::requests::{RequestReader, asked_in};
@@ -70,7 +70,7 @@ impl<'r> HttpFraming<'r> {
 
 // Whether this many bytes contain the complete request.
 fn is_there(head: &Head, size: usize) -> bool
-    ensures { result ≡ nat_le (size_of head.now) size }
+    ensures { result ≡ nat_le (request_size head.now) size }
 {
     head.size <= size && head.body <= size - head.size
 }
@@ -79,8 +79,9 @@ fn is_there(head: &Head, size: usize) -> bool
 // refusal.
 fn read_or_refused(reader: RequestReader<'_>, bytes: &[u8], head: &Head) -> Asked
     requires routes { reader.router.now ≡ routes }
-    requires read { IsRead bytes.now (HeadRead.Whole head.now) }
-    ensures { (result ≡ asked_in bytes.now head.now) ⊎ ReadsAs (asked_in bytes.now head.now) result }
+    requires read { IsRequestRead bytes.now (HeadRead.Whole head.now) }
+    ensures { (result ≡ asked_by_request bytes.now head.now)
+        ⊎ ReadsAs (asked_by_request bytes.now head.now) result }
 {
     match asked_in(reader, bytes, head) {
         Ok(asked) => asked,
@@ -89,7 +90,7 @@ fn read_or_refused(reader: RequestReader<'_>, bytes: &[u8], head: &Head) -> Aske
 }
 
 fn end_of(last: bool) -> Option<HttpEnd>
-    ensures { result ≡ end_of last }
+    ensures { result ≡ end_if_last last }
 {
     if last { Some(HttpEnd::Closed) } else { None }
 }

@@ -1,10 +1,10 @@
 //! The requests at the start of bytes.
 ghost use Rattle.std.specs.Prelude.{◌≡◌, ◌≤◌, length, IfOk, OnErr};
 ghost use Rattle.register_words.specs.Readings.{MayWantMemory};
-ghost use Rattle.http_heads.specs.Requests.{IsRead, asked_in, body_in, size_of};
+ghost use Rattle.http_heads.specs.Requests.{IsRequestRead, asked_by_request, body_in, request_size};
 ghost use Rattle.http_heads.specs.Routes.{routes};
 ghost use Rattle.http_heads.specs.declared.head.HeadRead.{HeadRead};
-ghost use Rattle.issuer_http.specs.Requests.{IsNext, WantsBody, answer_of};
+ghost use Rattle.issuer_http.specs.Requests.{IsNextRequest, WantsBody, answer_of};
 ghost use Rattle.issuer_http.specs.declared.requests.HttpRead.TheVariants.{NoMemory as OutOfMemory};
 
 use http_heads::{Head, HeadRead, Place, asked_of, read_whole, router, text_of};
@@ -33,7 +33,7 @@ pub enum HttpRead {
 
 /// Reads the request at the front of the bytes.
 pub fn next_request(alloc: Global, bytes: &[u8]) -> HttpRead
-    ensures { ¬ (result ≡ OutOfMemory) → IsNext bytes.now result }
+    ensures { ¬ (result ≡ OutOfMemory) → IsNextRequest bytes.now result }
 {
     match router(alloc) {
         Ok(router) => next_head(alloc, &router, bytes),
@@ -44,7 +44,7 @@ pub fn next_request(alloc: Global, bytes: &[u8]) -> HttpRead
 /// The same with a router that was made before. Only the body of an upload takes memory.
 pub fn next_head(alloc: Global, router: &Router<Place>, bytes: &[u8]) -> HttpRead
     requires { router.now ≡ routes }
-    ensures read { ¬ (result ≡ OutOfMemory) → IsNext bytes.now result }
+    ensures read { ¬ (result ≡ OutOfMemory) → IsNextRequest bytes.now result }
     ensures no_memory { result ≡ OutOfMemory → WantsBody bytes.now }
 {
     match read_whole(router, bytes) {
@@ -57,9 +57,9 @@ pub fn next_head(alloc: Global, router: &Router<Place>, bytes: &[u8]) -> HttpRea
 // What is read of bytes with this complete request at their front.
 fn whole(reader: RequestReader<'_>, bytes: &[u8], head: &Head) -> HttpRead
     requires routes { reader.router.now ≡ routes }
-    requires read { IsRead bytes.now (HeadRead.Whole head.now) }
+    requires read { IsRequestRead bytes.now (HeadRead.Whole head.now) }
     ensures read { ¬ (result ≡ OutOfMemory) → result ≡ answer_of bytes.now (HeadRead.Whole head.now) }
-    ensures no_memory { result ≡ OutOfMemory → MayWantMemory (asked_in bytes.now head.now) }
+    ensures no_memory { result ≡ OutOfMemory → MayWantMemory (asked_by_request bytes.now head.now) }
 {
     match asked_in(reader, bytes, head) {
         Ok(asked) => HttpRead::One {
@@ -82,9 +82,9 @@ pub struct RequestReader<'r> {
 /// upload, which is copied once.
 pub fn asked_in(reader: RequestReader<'_>, bytes: &[u8], head: &Head) -> Result<Asked, NoMemory>
     requires routes { reader.router.now ≡ routes }
-    requires read { IsRead bytes.now (HeadRead.Whole head.now) }
-    ensures ok { IfOk result (λ asked. asked ≡ asked_in bytes.now head.now) }
-    ensures err { OnErr result (MayWantMemory (asked_in bytes.now head.now)) }
+    requires read { IsRequestRead bytes.now (HeadRead.Whole head.now) }
+    ensures ok { IfOk result (λ asked. asked ≡ asked_by_request bytes.now head.now) }
+    ensures err { OnErr result (MayWantMemory (asked_by_request bytes.now head.now)) }
 {
     let target = text_of(head.target.of(bytes));
     let body = body_in(bytes, head);
@@ -93,7 +93,7 @@ pub fn asked_in(reader: RequestReader<'_>, bytes: &[u8], head: &Head) -> Result<
 
 // The body of the complete request at the front of the bytes.
 fn body_in<'a>(bytes: &'a [u8], head: &Head) -> &'a [u8]
-    requires { size_of head.now ≤ length bytes.now }
+    requires { request_size head.now ≤ length bytes.now }
     ensures { result.now ≡ body_in bytes.now head.now }
 {
     let (_, rest) = bytes.split_at(head.size);

@@ -4,9 +4,9 @@ ghost use Rattle.http_heads.specs.Responses.{response_head};
 ghost use Rattle.lei_outside.specs.Count.{Rose};
 ghost use Rattle.register_words.specs.Refusals.{refusal_words};
 ghost use Rattle.lei_outside.specs.Faults.{FailsLast};
-ghost use Rattle.lei_outside.specs.Links.{told_by};
+ghost use Rattle.lei_outside.specs.Links.{link_told};
 ghost use Rattle.request_loop.specs.Wires.{IsSent};
-ghost use Rattle.issuer_http.specs.Responses.{content_of, methods_in, response_bytes};
+ghost use Rattle.issuer_http.specs.Responses.{content_kind, methods_in, response_bytes};
 
 use http_heads::{Content, Response, put_head};
 use lei_office::{Allowed, Kind, Refusal, Reply};
@@ -63,7 +63,7 @@ pub fn send_reply<L: Wire>(
     ensures sent { IsSent (L.written link.old) (L.written link.new) (response_bytes last reply.now) result }
     ensures kept { ¬ (IsErrOf result SinkFault.Failed) → L.write_faults link.new ≡ L.write_faults link.old }
     ensures failed { IsErrOf result SinkFault.Failed →
-        FailsLast (told_by L.left L.written) L.write_faults link.old link.new }
+        FailsLast (link_told L.left L.written) L.write_faults link.old link.new }
     ensures left { L.left link.new ≡ L.left link.old }
     ensures read_count { L.read_faults link.new ≡ L.read_faults link.old }
     ensures wire { L.lends_same link.old link.new }
@@ -95,7 +95,7 @@ fn send_refusal<L: Wire>(
         (response_bytes last (Reply.Words refusal)) result }
     ensures kept { ¬ (IsErrOf result SinkFault.Failed) → L.write_faults link.new ≡ L.write_faults link.old }
     ensures failed { IsErrOf result SinkFault.Failed →
-        FailsLast (told_by L.left L.written) L.write_faults link.old link.new }
+        FailsLast (link_told L.left L.written) L.write_faults link.old link.new }
     ensures left { L.left link.new ≡ L.left link.old }
     ensures read_count { L.read_faults link.new ≡ L.read_faults link.old }
     ensures wire { L.lends_same link.old link.new }
@@ -124,7 +124,7 @@ fn send<L: Wire>(
         (response_head response.now ++ text.now) result }
     ensures kept { ¬ (IsErrOf result SinkFault.Failed) → L.write_faults link.new ≡ L.write_faults link.old }
     ensures failed { IsErrOf result SinkFault.Failed →
-        FailsLast (told_by L.left L.written) L.write_faults link.old link.new }
+        FailsLast (link_told L.left L.written) L.write_faults link.old link.new }
     ensures left { L.left link.new ≡ L.left link.old }
     ensures read_count { L.read_faults link.new ≡ L.read_faults link.old }
     ensures wire { L.lends_same link.old link.new }
@@ -156,7 +156,7 @@ fn send_both<L: Wire>(link: &mut L, first: &[u8], second: &[u8]) -> Result<(), S
     ensures sent { IsSent (L.written link.old) (L.written link.new) (first.now ++ second.now) result }
     ensures kept { ¬ (IsErrOf result SinkFault.Failed) → L.write_faults link.new ≡ L.write_faults link.old }
     ensures failed { IsErrOf result SinkFault.Failed →
-        FailsLast (told_by L.left L.written) L.write_faults link.old link.new }
+        FailsLast (link_told L.left L.written) L.write_faults link.old link.new }
     ensures left { L.left link.new ≡ L.left link.old }
     ensures read_count { L.read_faults link.new ≡ L.read_faults link.old }
     ensures wire { L.lends_same link.old link.new }
@@ -182,7 +182,7 @@ fn write_words(out: &mut Vec<u8>, refusal: Refusal) -> Result<(), NoMemory>
 }
 
 fn content_of(kind: Kind) -> Content
-    ensures { result ≡ content_of kind }
+    ensures { result ≡ content_kind kind }
 {
     match kind {
         Kind::Json => Content::Json,

@@ -5,7 +5,7 @@ ghost use Rattle.lei_outside.specs.Count.{Rose};
 ghost use Rattle.request_loop.specs.Frames.{Fits};
 ghost use Rattle.request_loop.specs.Serving.{progress as progress_of};
 ghost use Rattle.issuer_http.specs.Frames.{http_rules};
-ghost use Rattle.issuer_http.specs.Serving.{Completes, CompletesBy, ReportsFaults, Serves, ServesBy, ended_of, progress};
+ghost use Rattle.issuer_http.specs.Serving.{CompletesBy, CompletesHttp, ReportsFaults, ServesBy, ServesHttp, ended_of, http_progress};
 ghost use Rattle.issuer_http.specs.declared.ended.Ended.{Ended};
 
 use crate::ended::{Ended, HttpEnd};
@@ -31,10 +31,12 @@ pub fn serve_alone<R: Threads + Sync, K: Keeper, L: Link, C: Clock>(
     link: &mut L,
     clock: &mut C,
 ) -> Ended
-    ensures serves { Serves
-        (progress office.old.office (K.tables office.old.keeper) (K.faults office.old.keeper) (C.given clock.old)
+    ensures serves { ServesHttp
+        (http_progress office.old.office (K.tables office.old.keeper) (K.faults office.old.keeper)
+        (C.given clock.old)
         (L.written link.old)) (L.left link.old)
-        (progress office.new.office (K.tables office.new.keeper) (K.faults office.new.keeper) (C.given clock.new)
+        (http_progress office.new.office (K.tables office.new.keeper) (K.faults office.new.keeper)
+        (C.given clock.new)
         (L.written link.new)) (L.left link.new)
         result }
     ensures faults { ReportsFaults result (L.read_faults link.old) (L.read_faults link.new)
@@ -42,10 +44,12 @@ pub fn serve_alone<R: Threads + Sync, K: Keeper, L: Link, C: Clock>(
     ensures complete { (bytes : List ℕ) → L.left link.old ≡ Some bytes → ¬ (result ≡ Ended.NoMemory)
         → ¬ (Rose (L.read_faults link.old) (L.read_faults link.new))
         → ¬ (Rose (L.write_faults link.old) (L.write_faults link.new))
-        → Completes result
-        (progress office.old.office (K.tables office.old.keeper) (K.faults office.old.keeper) (C.given clock.old)
+        → CompletesHttp result
+        (http_progress office.old.office (K.tables office.old.keeper) (K.faults office.old.keeper)
+        (C.given clock.old)
         (L.written link.old)) bytes
-        (progress office.new.office (K.tables office.new.keeper) (K.faults office.new.keeper) (C.given clock.new)
+        (http_progress office.new.office (K.tables office.new.keeper) (K.faults office.new.keeper)
+        (C.given clock.new)
         (L.written link.new)) }
 {
     match router(alloc) {
@@ -64,10 +68,12 @@ pub fn serve_with<R: Threads + Sync, K: Keeper, L: Link, C: Clock>(
     clock: &mut C,
 ) -> Ended
     requires { router.now ≡ routes }
-    ensures serves { Serves
-        (progress office.old.office (K.tables office.old.keeper) (K.faults office.old.keeper) (C.given clock.old)
+    ensures serves { ServesHttp
+        (http_progress office.old.office (K.tables office.old.keeper) (K.faults office.old.keeper)
+        (C.given clock.old)
         (L.written link.old)) (L.left link.old)
-        (progress office.new.office (K.tables office.new.keeper) (K.faults office.new.keeper) (C.given clock.new)
+        (http_progress office.new.office (K.tables office.new.keeper) (K.faults office.new.keeper)
+        (C.given clock.new)
         (L.written link.new)) (L.left link.new)
         result }
     ensures faults { ReportsFaults result (L.read_faults link.old) (L.read_faults link.new)
@@ -75,10 +81,12 @@ pub fn serve_with<R: Threads + Sync, K: Keeper, L: Link, C: Clock>(
     ensures complete { (bytes : List ℕ) → L.left link.old ≡ Some bytes → ¬ (result ≡ Ended.NoMemory)
         → ¬ (Rose (L.read_faults link.old) (L.read_faults link.new))
         → ¬ (Rose (L.write_faults link.old) (L.write_faults link.new))
-        → Completes result
-        (progress office.old.office (K.tables office.old.keeper) (K.faults office.old.keeper) (C.given clock.old)
+        → CompletesHttp result
+        (http_progress office.old.office (K.tables office.old.keeper) (K.faults office.old.keeper)
+        (C.given clock.old)
         (L.written link.old)) bytes
-        (progress office.new.office (K.tables office.new.keeper) (K.faults office.new.keeper) (C.given clock.new)
+        (http_progress office.new.office (K.tables office.new.keeper) (K.faults office.new.keeper)
+        (C.given clock.new)
         (L.written link.new)) }
 {
     serve_by(rt, alloc, office, router, link, clock)

@@ -5,36 +5,36 @@ use Rattle.sqlite.specs.State.{State, HasCleanDisk, Survives}
 use Rattle.sqlite.specs.Effect.{Database}
 use Rattle.lei_outside.specs.Keeping.{KeptTables, with_batch}
 use Rattle.lei_outside.specs.declared.keeper.Batch.{Batch}
-use Rattle.store_tables.specs.Calls.{IsKept, IsNext, IsReady, IsSeen, IsSteady, IsUndone, Tells}
-use Rattle.store_tables.specs.Crash.{IsFound}
-use Rattle.store_tables.specs.Told.{told_by}
+use Rattle.store_tables.specs.Calls.{HasNextNumber, IsReadyStore, IsSeen, IsSteady, IsUndone, KeepsBatch, TellsTables}
+use Rattle.store_tables.specs.Crash.{MayBeFound}
+use Rattle.store_tables.specs.Told.{told_in_trees}
 use Rattle.store_tables.proofs.CrashLemmas.{found_settled, kept_tells, tells_told, told_tells}
 use Rattle.store_tables.proofs.TransactionLemmas.{undone_now}
-use Rattle.keeper_sqlite.specs.Transactions.{Ends, HasKept, MayKeep}
+use Rattle.keeper_sqlite.specs.Transactions.{EndsCommit, HasKept, MayKeep}
 
-tells : (s : State) (t : KeptTables) → IsReady s → IsTrue s.is_open
-    → told_by s.now.schema s.now.trees ≡ Some t → Tells s.now.schema s.now.trees t
+tells : (s : State) (t : KeptTables) → IsReadyStore s → IsTrue s.is_open
+    → told_in_trees s.now.schema s.now.trees ≡ Some t → TellsTables s.now.schema s.now.trees t
 tells s t ready live told =
     told_tells s.now.schema s.now.trees t ready.whole.schema (ready.whole.sound live) ready.second told
 
 abbrev Law : State → Type 0
 Law s = IsTrue s.is_open → (db : Trees) → s.may_leave db → db ≡ s.committed.trees
 
-kept_ends : (batch : Batch) (old new : State) → IsReady old → Law new → HasKept batch old new
-    → (t : KeptTables) → IsNext batch.entry t → told_by old.now.schema old.now.trees ≡ Some t
-    → (told_by new.now.schema new.now.trees ≡ Some (with_batch batch t))
-    × ((left : Option KeptTables) → IsFound new left → left ≡ Some (with_batch batch t))
+kept_ends : (batch : Batch) (old new : State) → IsReadyStore old → Law new → HasKept batch old new
+    → (t : KeptTables) → HasNextNumber batch.entry t → told_in_trees old.now.schema old.now.trees ≡ Some t
+    → (told_in_trees new.now.schema new.now.trees ≡ Some (with_batch batch t))
+    × ((left : Option KeptTables) → MayBeFound new left → left ≡ Some (with_batch batch t))
 kept_ends batch old new ready law kept t next told =
     let after = kept.told t next (tells old t ready kept.was_open told) in
     (tells_told new.now.schema new.now.trees _ after, found_settled new (with_batch batch t) (law kept.is_open) kept.settled after)
 
-module _ (batch : Batch) (old new : State) (law : Law new) (survives : Survives old new (IsKept batch old))
-    (ready : HasCleanDisk old → IsReady old) (mode : new.in_transaction ≡ false) where
+module _ (batch : Batch) (old new : State) (law : Law new) (survives : Survives old new (KeepsBatch batch old))
+    (ready : HasCleanDisk old → IsReadyStore old) (mode : new.in_transaction ≡ false) where
   earlier : HasCleanDisk new → HasCleanDisk old
   earlier clean = omega (arith, survives.clean, clean)
 
-  found : HasCleanDisk new → (left : Option KeptTables) → IsFound new left
-      → IsFound old left ⊎ (IsSeen old left ⊎ MayKeep batch old left)
+  found : HasCleanDisk new → (left : Option KeptTables) → MayBeFound new left
+      → MayBeFound old left ⊎ (IsSeen old left ⊎ MayKeep batch old left)
   found clean left it = elim (survives.crash clean it.0 it.2) [
     | inl was ↦ inl (it.0, it.1, was, it.3, it.4)
     | inr kept ↦ inr (inr (
@@ -45,7 +45,7 @@ module _ (batch : Batch) (old new : State) (law : Law new) (survives : Survives 
   ]
 
   pub keep_ends : {E : Type 0} (r : Result (Unit {0}) E) → (HasCleanDisk new → OnOk r (HasKept batch old new))
-      → (HasCleanDisk new → OnErr r (IsUndone old new)) → Ends batch r old new
+      → (HasCleanDisk new → OnErr r (IsUndone old new)) → EndsCommit batch r old new
   keep_ends (Ok x) kept undone = record {
     clean = survives.clean;
     mode = λ _. mode;
@@ -59,7 +59,7 @@ module _ (batch : Batch) (old new : State) (law : Law new) (survives : Survives 
     mode = λ _. mode;
     was_open = λ clean live. (undone clean).was_open live;
     kept = λ clean. tt;
-    undone = λ clean live t was. ap (λ (d : Database). told_by d.schema d.trees)
+    undone = λ clean live t was. ap (λ (d : Database). told_in_trees d.schema d.trees)
         (undone_now old new (ready (earlier clean)).whole.settled (undone clean) live) ∙ was;
     crash = found;
   }
@@ -73,7 +73,7 @@ on_err (Ok x) P Q then h = tt
 on_err (Err e) P Q then h = then h
 
 -- a call that was refused before it wrote
-pub refused_ends : {E : Type 0} (batch : Batch) (e : E) (a b : State) → IsSteady a b → Ends batch (Err e) a b
+pub refused_ends : {E : Type 0} (batch : Batch) (e : E) (a b : State) → IsSteady a b → EndsCommit batch (Err e) a b
 refused_ends batch e a b one = record {
   clean = one.clean;
   mode = one.mode;
@@ -85,7 +85,7 @@ refused_ends batch e a b one = record {
 
 -- a steady call, and then one that commits
 pub steady_ends : {E : Type 0} (batch : Batch) (r : Result (Unit {0}) E) (a b c : State) → IsSteady a b
-    → Ends batch r b c → Ends batch r a c
+    → EndsCommit batch r b c → EndsCommit batch r a c
 steady_ends batch r a b c one two = record {
   clean = omega (arith, one.clean, two.clean);
   mode = λ h. two.mode (one.mode h);

@@ -3,7 +3,7 @@ use Rattle.std.proofs.Common.{◌≡◌, ◌++◌, ℕ, List, [], ◌∷◌, len
 use Rattle.sqlite_value.specs.declared.value.Value.{Value}
 use Rattle.sqlite_value.specs.declared.value.Value.TheVariants.{Text}
 use Rattle.sqlite_value.specs.Order.{Row, bytes, column}
-use Rattle.store_statements.specs.Names.{AreParts, lei_of, rest_of}
+use Rattle.store_statements.specs.Names.{AreNameParts, lei_of, rest_of}
 use Rattle.store_tables.proofs.NameLemmas.{parts_again, parts_of}
 
 -- A row of eight columns is the list of their values.
@@ -28,16 +28,16 @@ text_same a b e = ap bytes e
 
 -- texts that aren't the parts of a name belong to no name
 pub no_parts : (v w : Value) (lei rest name : List ℕ) → v ≡ Text lei → w ≡ Text rest
-    → (AreParts lei rest → ⊥) → v ≡ Text (lei_of name) → w ≡ Text (rest_of name) → ⊥
+    → (AreNameParts lei rest → ⊥) → v ≡ Text (lei_of name) → w ≡ Text (rest_of name) → ⊥
 no_parts v w lei rest name p q never r s =
     let first = text_same lei (lei_of name) (sym p ∙ r) in
     let other = text_same rest (rest_of name) (sym q ∙ s) in
-    never (subst₂ AreParts (sym first) (sym other) (parts_of name))
+    never (subst₂ AreNameParts (sym first) (sym other) (parts_of name))
 
-pub lei_again : (v : Value) (lei rest name : List ℕ) → v ≡ Text lei → AreParts lei rest → name ≡ lei ++ rest
+pub lei_again : (v : Value) (lei rest name : List ℕ) → v ≡ Text lei → AreNameParts lei rest → name ≡ lei ++ rest
     → v ≡ Text (lei_of name)
 lei_again v lei rest name p are is = p ∙ ap Text (sym (parts_again lei rest are).0 ∙ ap lei_of (sym is))
 
-pub rest_again : (v : Value) (lei rest name : List ℕ) → v ≡ Text rest → AreParts lei rest → name ≡ lei ++ rest
+pub rest_again : (v : Value) (lei rest name : List ℕ) → v ≡ Text rest → AreNameParts lei rest → name ≡ lei ++ rest
     → v ≡ Text (rest_of name)
 rest_again v lei rest name p are is = p ∙ ap Text (sym (parts_again lei rest are).1 ∙ ap rest_of (sym is))

@@ -2,14 +2,14 @@
 use Rattle.std.proofs.Common.{◌≡◌, ◌⊎◌, inl, inr, Bool, true, false, not, cond, Option, Some, None, is_some, IfSome, Ok, Err, Result, OnOk, IsTrue, refl, sym, ap, subst, ◌∙◌, arith, true≢false}
 use Rattle.sqlite_trees.proofs.Doubt.{clean_of, no_doubt}
 use Rattle.sqlite.specs.State.{State, HasCleanDisk}
-use Rattle.lei_outside.specs.Keeping.{Becomes, CommitLeaves, Commits, IsNextOf, KeptTables, LeavesEither, LeavesNoMore, Stays, with_batch}
+use Rattle.lei_outside.specs.Keeping.{Becomes, CommitLeaves, Commits, IsNextOf, KeptTables, LeavesEither, LeavesNoMore, TablesStay, with_batch}
 use Rattle.lei_outside.specs.declared.keeper.Batch.{Batch}
-use Rattle.store_tables.specs.Calls.{IsNext, IsSeen, IsSteady}
+use Rattle.store_tables.specs.Calls.{HasNextNumber, IsSeen, IsSteady}
 use Rattle.store_tables.specs.Crash.{leaves_in}
-use Rattle.store_tables.specs.Told.{is_settled, told_by, told_in}
+use Rattle.store_tables.specs.Told.{is_settled, told_in, told_in_trees}
 use Rattle.store_tables.proofs.SameLemmas.{both_of, left_of, right_of}
 use Rattle.keeper_sqlite.specs.Keepers.{KeepsOn, leaves_since, told_since}
-use Rattle.keeper_sqlite.specs.Transactions.{Ends}
+use Rattle.keeper_sqlite.specs.Transactions.{EndsCommit}
 
 record Settled (s : State) : Type 0 where
   pub clean : HasCleanDisk s
@@ -37,12 +37,12 @@ cond_some true o t h = (refl, h)
 cond_some false o t h = absurd (cc)
 
 told_is : (s : State) (t : KeptTables) → told_in s ≡ Some t
-    → Settled s × (told_by s.now.schema s.now.trees ≡ Some t)
+    → Settled s × (told_in_trees s.now.schema s.now.trees ≡ Some t)
 told_is s t h = let it = cond_some (is_settled s) _ t h in (settled_is s it.0, it.1)
 
 told_now : (s : State) → HasCleanDisk s → IsTrue s.is_open → s.in_transaction ≡ false
-    → told_in s ≡ told_by s.now.schema s.now.trees
-told_now s clean live mode = ap (λ b. cond b (told_by s.now.schema s.now.trees) None)
+    → told_in s ≡ told_in_trees s.now.schema s.now.trees
+told_now s clean live mode = ap (λ b. cond b (told_in_trees s.now.schema s.now.trees) None)
     (settled_back s clean live mode)
 
 some_of : (o : Option KeptTables) → IsTrue (is_some o) → (t : KeptTables) × (o ≡ Some t)
@@ -60,7 +60,7 @@ one_some s t e = cc
 module _ (adopted old new : State) (was : IsTrue (is_some (told_in adopted))) (on : KeepsOn adopted old) where
   -- what an open connection with a clean disk told
   told_old : HasCleanDisk old → IsTrue old.is_open
-      → (t : KeptTables) × (told_in old ≡ Some t) × (told_by old.now.schema old.now.trees ≡ Some t)
+      → (t : KeptTables) × (told_in old ≡ Some t) × (told_in_trees old.now.schema old.now.trees ≡ Some t)
   told_old clean live =
       let it = some_of (told_in old) (on.told was clean live) in
       (it.0, it.1, sym (told_now old clean live (on.mode was)) ∙ it.1)
@@ -103,7 +103,7 @@ module _ (adopted old new : State) (on : KeepsOn adopted old) (one : IsSteady ol
     | inr seen ↦ seen_told adopted old new was on (earlier clean) left seen
   ]
 
-stays_by : (a b : Option KeptTables) → ((t : KeptTables) → b ≡ Some t → a ≡ Some t) → Stays a b
+stays_by : (a b : Option KeptTables) → ((t : KeptTables) → b ≡ Some t → a ≡ Some t) → TablesStay a b
 stays_by None None same = tt
 stays_by None (Some t) same = let e = same t refl in absurd (cc)
 stays_by (Some s) None same = tt
@@ -118,7 +118,7 @@ since_true : (b : Bool) (o : Option KeptTables) → b ≡ true → cond b o None
 since_true b o h = rw h refl
 
 pub steady_stays : (adopted old new : State) → KeepsOn adopted old → IsSteady old new
-    → Stays (told_since adopted old) (told_since adopted new)
+    → TablesStay (told_since adopted old) (told_since adopted new)
 steady_stays adopted old new on one = stays_by _ _ (λ t told.
     let it = since_some (is_some (told_in adopted)) (told_in new) t told in
     since_true (is_some (told_in adopted)) (told_in old) it.0 ∙ same_told adopted old new on one it.0 t it.1)
@@ -130,7 +130,7 @@ steady_leaves adopted old new on one left after was = leaves_before adopted old 
 
 -- the answer of a call about what is told afterwards
 pub since_told : (adopted s : State) (t : KeptTables) → told_since adopted s ≡ Some t
-    → HasCleanDisk s × (told_by s.now.schema s.now.trees ≡ Some t)
+    → HasCleanDisk s × (told_in_trees s.now.schema s.now.trees ≡ Some t)
 since_told adopted s t told =
     let it = since_some (is_some (told_in adopted)) (told_in s) t told in
     let now = told_is s t it.1 in
@@ -152,31 +152,31 @@ told_by_is None P each = tt
 told_by_is (Some t) P each = each t refl
 
 next_of : (o : Option KeptTables) (batch : Batch) (t : KeptTables) → IsNextOf o batch → o ≡ Some t
-    → IsNext batch.entry t
+    → HasNextNumber batch.entry t
 next_of None batch t next e = absurd (cc)
-next_of (Some s) batch t next e = subst (IsNext batch.entry) (one_some s t e) next
+next_of (Some s) batch t next e = subst (HasNextNumber batch.entry) (one_some s t e) next
 
 module _ {E : Type 0} (batch : Batch) (r : Result (Unit {0}) E) (adopted old new : State)
-    (on : KeepsOn adopted old) (next : IsNextOf (told_since adopted old) batch) (it : Ends batch r old new)
+    (on : KeepsOn adopted old) (next : IsNextOf (told_since adopted old) batch) (it : EndsCommit batch r old new)
   where
     was_clean : HasCleanDisk new → HasCleanDisk old
     was_clean clean = omega (arith, it.clean, clean)
 
     next_is : IsTrue (is_some (told_in adopted)) → (t : KeptTables) → told_in old ≡ Some t
-        → IsNext batch.entry t
+        → HasNextNumber batch.entry t
     next_is was t told = next_of (told_since adopted old) batch t next
         (since_true (is_some (told_in adopted)) (told_in old) was ∙ told)
 
     -- an open connection whose disk is clean told its tables, and the batch's entry is the next
     before : IsTrue (is_some (told_in adopted)) → HasCleanDisk new → IsTrue old.is_open
-        → (t : KeptTables) × (told_in old ≡ Some t) × (told_by old.now.schema old.now.trees ≡ Some t)
-        × IsNext batch.entry t
+        → (t : KeptTables) × (told_in old ≡ Some t) × (told_in_trees old.now.schema old.now.trees ≡ Some t)
+        × HasNextNumber batch.entry t
     before was clean live =
         let x = told_old adopted old new was on (was_clean clean) live in
         (x.0, x.1, x.2, next_is was x.0 x.1)
 
 pub ends_on : {E : Type 0} (batch : Batch) (r : Result (Unit {0}) E) (adopted old new : State)
-    → KeepsOn adopted old → IsNextOf (told_since adopted old) batch → Ends batch r old new
+    → KeepsOn adopted old → IsNextOf (told_since adopted old) batch → EndsCommit batch r old new
     → KeepsOn adopted new
 ends_on batch (Ok x) adopted old new on next it = record {
   mode = λ was. it.mode (on.mode was);
@@ -194,7 +194,7 @@ ends_on batch (Err e) adopted old new on next it = record {
 }
 
 pub ends_commits : {E : Type 0} (batch : Batch) (r : Result (Unit {0}) E) (adopted old new : State)
-    → KeepsOn adopted old → IsNextOf (told_since adopted old) batch → Ends batch r old new
+    → KeepsOn adopted old → IsNextOf (told_since adopted old) batch → EndsCommit batch r old new
     → Commits batch r (told_since adopted old) (told_since adopted new)
 ends_commits batch (Ok x) adopted old new on next it = becomes_by (with_batch batch) _ _ (λ t told.
     let since = since_some (is_some (told_in adopted)) (told_in new) t told in
@@ -216,7 +216,7 @@ ends_commits batch (Err e) adopted old new on next it = stays_by _ _ (λ t told.
 
 -- what a crash may leave after a commit that was refused
 left_either : {E : Type 0} (batch : Batch) (e : E) (adopted old new : State) → KeepsOn adopted old
-    → IsNextOf (told_since adopted old) batch → Ends batch (Err e) old new
+    → IsNextOf (told_since adopted old) batch → EndsCommit batch (Err e) old new
     → (b : Bool) → is_some (told_in adopted) ≡ b
     → LeavesEither batch (told_since adopted old) (leaves_since adopted old) (leaves_since adopted new)
 left_either batch e adopted old new on next it false none left after = inl
@@ -242,7 +242,7 @@ left_either batch e adopted old new on next it true was left after = go (after w
     ]
 
 pub ends_leaves : {E : Type 0} (batch : Batch) (r : Result (Unit {0}) E) (adopted old new : State)
-    → KeepsOn adopted old → IsNextOf (told_since adopted old) batch → Ends batch r old new
+    → KeepsOn adopted old → IsNextOf (told_since adopted old) batch → EndsCommit batch r old new
     → CommitLeaves batch r (told_since adopted old) (told_since adopted new) (leaves_since adopted old)
     (leaves_since adopted new)
 ends_leaves batch (Ok x) adopted old new on next it = told_by_is (told_since adopted new) _

@@ -10,14 +10,14 @@ use Rattle.sqlite_trees.specs.declared.store.Store.{Ghosts}
 use Rattle.sqlite_value.specs.declared.value.Value.{Value}
 use Rattle.sqlite_value.specs.declared.value.Value.TheVariants.{Int, Blob}
 use Rattle.sqlite_value.specs.Order.{Row, bytes, column}
-use Rattle.lei_outside.specs.Keeping.{KeptTables, last_number, number_of}
+use Rattle.lei_outside.specs.Keeping.{KeptTables, entry_number, last_number}
 use Rattle.lei_outside.specs.declared.entry.KeptEntry.{KeptEntry}
 use Rattle.lei_outside.specs.declared.keeper.KeptCell.{KeptCell}
 use Rattle.store_statements.specs.Rows.{cell_row, entry_row}
 use Rattle.store_statements.specs.Schemas.{whole_schema}
-use Rattle.store_tables.specs.Calls.{IsMade, IsReady, IsSteady, IsUndone, IsWhole, Makes, Moves, ReadsForm, last_rows, number_row}
+use Rattle.store_tables.specs.Calls.{IsMade, IsReadyStore, IsSteady, IsUndone, IsWholeStore, Makes, Moves, ReadsForm, last_rows, number_row}
 use Rattle.store_tables.specs.Stored.{second_row}
-use Rattle.store_tables.specs.Told.{told_by}
+use Rattle.store_tables.specs.Told.{told_in_trees}
 use Rattle.store_tables.proofs.CrashLemmas.{tells_told, told_tells_first}
 use Rattle.store_tables.proofs.NameLemmas.{joined_again}
 use Rattle.store_tables.proofs.TransactionLemmas.{made_steady}
@@ -27,8 +27,8 @@ use Rattle.keeper_sqlite.specs.declared.over.Form.{Form}
 went : {E : Type 0} (old new : State) (r : Result (Unit {0}) E) → OnOk r (HasMade old new)
     → OnErr r (IsUndone old new)
     → IsUndone old new ⊎ (IsTrue old.is_open
-    × ((t : KeptTables) → told_by old.now.schema old.now.trees ≡ Some t
-    → told_by new.now.schema new.now.trees ≡ Some t))
+    × ((t : KeptTables) → told_in_trees old.now.schema old.now.trees ≡ Some t
+    → told_in_trees new.now.schema new.now.trees ≡ Some t))
 went old new (Ok x) made undone = inr (made.was_open, λ t was. made.told ∙ was)
 went old new (Err e) made undone = inl undone
 
@@ -43,14 +43,14 @@ make_steady old new r settled mode made undone survives =
 moved : {E : Type 0} (old new : State) (r : Result (Unit {0}) E) → OnOk r (HasMoved old new)
     → OnErr r (IsUndone old new)
     → IsUndone old new ⊎ (IsTrue old.is_open
-    × ((t : KeptTables) → told_by old.now.schema old.now.trees ≡ Some t
-    → told_by new.now.schema new.now.trees ≡ Some t))
+    × ((t : KeptTables) → told_in_trees old.now.schema old.now.trees ≡ Some t
+    → told_in_trees new.now.schema new.now.trees ≡ Some t))
 moved old new (Ok x) made undone = inr (made.was_open, made.told)
 moved old new (Err e) made undone = inl undone
 
 pub move_steady : {E : Type 0} (old new : State) (r : Result (Unit {0}) E)
     → (HasCleanDisk old → HasForm old Form.First) → new.in_transaction ≡ false
-    → (HasCleanDisk new → IsWhole old → old.now.trees 4 ≡ [] → OnOk r (HasMoved old new))
+    → (HasCleanDisk new → IsWholeStore old → old.now.trees 4 ≡ [] → OnOk r (HasMoved old new))
     → (HasCleanDisk new → OnErr r (IsUndone old new))
     → Survives old new (IsMoved old) → IsSteady old new
 move_steady old new r first mode made undone survives =
@@ -65,7 +65,7 @@ move_steady old new r first mode made undone survives =
 
 -- what a transaction that made the tables commits
 pub is_made : (s : State) (now : Database) (db : Trees) → IsTrue s.is_open → IsDatabase now
-    → told_by now.schema now.trees ≡ told_by s.now.schema s.now.trees → db ≡ now.trees → IsMade s db
+    → told_in_trees now.schema now.trees ≡ told_in_trees s.now.schema s.now.trees → db ≡ now.trees → IsMade s db
 is_made s now db live sound told is = subst (IsMade s) (sym is)
     (live, λ t was. (now.schema, sound, told ∙ was))
 
@@ -78,18 +78,18 @@ is_moved s mid db moves is whole form = subst (IsMade s) (sym is) (
       (mid.now.schema, tells.holds.sound, tells_told mid.now.schema mid.now.trees t tells),
 )
 
-pub has_moved : (s mid new : State) → Moves s mid → new.now ≡ mid.now → IsWhole s → s.now.trees 4 ≡ []
+pub has_moved : (s mid new : State) → Moves s mid → new.now ≡ mid.now → IsWholeStore s → s.now.trees 4 ≡ []
     → HasMoved s new
 has_moved s mid new moves is whole form = record {
   was_open = moves.inside.was_open;
   told = λ t was. let tells = moves.told t (told_tells_first s.now.schema s.now.trees t whole.schema
       (whole.sound moves.inside.was_open) form was) in
-      ap (λ (d : Database). told_by d.schema d.trees) is ∙ tells_told mid.now.schema mid.now.trees t tells;
+      ap (λ (d : Database). told_in_trees d.schema d.trees) is ∙ tells_told mid.now.schema mid.now.trees t tells;
 }
 
 pub moved_after : {S : Type 0} (g : Ghosts S) (old tx : Held S) (mid new : State)
     → tx ≡ record old { in_transaction = true } → Moves (state g tx) mid → new.now ≡ mid.now
-    → IsWhole (state g old) → (state g old).now.trees 4 ≡ [] → HasMoved (state g old) new
+    → IsWholeStore (state g old) → (state g old).now.trees 4 ≡ [] → HasMoved (state g old) new
 moved_after g old tx mid new begun moves is whole form =
     let it = subst (λ h. Moves (state g h) mid) begun moves in
     has_moved (state g old) mid new
@@ -138,11 +138,11 @@ moved_survives g old tx mid new begun one two moves =
     (survives_begin g old mid (λ _. ⊥) (subst (λ h. Survives (state g h) mid (λ _. ⊥)) begun one)) two
 
 pub is_whole : (s : State) → s.now.schema ≡ whole_schema → (IsTrue s.is_open → s.now ≡ s.committed)
-    → IsLive s → IsWhole s
+    → IsLive s → IsWholeStore s
 is_whole s schema settled live = record { schema = schema; settled = settled; sound = λ h. (live h).0 }
 
 -- what reading the form says of a store with all four tables
-pub has_form : (old new : State) (rows : List Row) (form : Form) → IsWhole old → ReadsForm old new rows
+pub has_form : (old new : State) (rows : List Row) (form : Form) → IsWholeStore old → ReadsForm old new rows
     → (form ≡ Form.First → rows ≡ []) → (form ≡ Form.Second → rows ≡ second_row ∷ [])
     → HasForm new form
 has_form old new rows form whole reads first second = record {
@@ -155,7 +155,7 @@ has_form old new rows form whole reads first second = record {
   second = λ is. reads.second (second is);
 }
 
-pub form_ready : (s : State) (form : Form) → HasForm s form → form ≡ Form.Second → IsReady s
+pub form_ready : (s : State) (form : Form) → HasForm s form → form ≡ Form.Second → IsReadyStore s
 form_ready s form has is = record { whole = has.whole; second = has.second is }
 
 -- ---- what is read
@@ -174,7 +174,7 @@ pub number_is : (n : ℕ) (row : Row) (rows : List Row) (t : KeptTables) → row
 number_is n row rows t is first all = go (slice_get t.entries (length t.entries - 1))
     (sym first ∙ ap (λ xs. slice_get xs 0) all)
   where
-    go : (o : Option KeptEntry) → Some row ≡ slice_get (number_row o) 0 → n ≡ number_of o
+    go : (o : Option KeptEntry) → Some row ≡ slice_get (number_row o) 0 → n ≡ entry_number o
     go None e = absurd (cc)
     go (Some entry) e = let same : row
         ≡ Int (pos entry.seq) ∷ [] = cc in number_same n entry.seq (sym is ∙ same)
@@ -184,7 +184,7 @@ pub none_is : (rows : List Row) (t : KeptTables) → slice_get rows 0 ≡ None �
 none_is rows t first all = go (slice_get t.entries (length t.entries - 1))
     (sym first ∙ ap (λ xs. slice_get xs 0) all)
   where
-    go : (o : Option KeptEntry) → None ≡ slice_get (number_row o) 0 → 0 ≡ number_of o
+    go : (o : Option KeptEntry) → None ≡ slice_get (number_row o) 0 → 0 ≡ entry_number o
     go None e = refl
     go (Some entry) e = absurd (cc)
 

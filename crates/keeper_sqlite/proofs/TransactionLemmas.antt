@@ -8,7 +8,7 @@ use Rattle.sqlite.proofs.StateLemmas.{survives_then}
 use Rattle.lei_outside.specs.Keeping.{IsBatch, IsCellOf, KeptTables, with_batch}
 use Rattle.lei_outside.specs.declared.keeper.Batch.{Batch}
 use Rattle.lei_outside.specs.declared.keeper.KeptCell.{KeptCell}
-use Rattle.store_tables.specs.Calls.{IsInside, IsNext, Turns, with_cell, with_cells, with_entry}
+use Rattle.store_tables.specs.Calls.{ChangesTables, HasNextNumber, IsInside, tables_with_cell, tables_with_entry, with_cells}
 use Rattle.store_tables.proofs.CallLemmas.{cells_more, turns_then}
 
 -- two parts that commit nothing
@@ -31,22 +31,22 @@ abbrev pub AreNumbered : List KeptCell → KeptTables → Type 0
 AreNumbered cells t = AllByRecursion (λ cell. 1 ≤ cell.touched) cells
 
 pub one_put : (cells : List KeptCell) (i : ℕ) (c : KeptCell) (a b d : State) → i < length cells
-    → c ≡ get_or cells i c → Turns (with_cells (take i cells)) (AreNumbered cells) a b
-    → Turns (with_cell c) (λ _. 1 ≤ c.touched) b d
-    → Turns (with_cells (take (i + 1) cells)) (AreNumbered cells) a d
+    → c ≡ get_or cells i c → ChangesTables (with_cells (take i cells)) (AreNumbered cells) a b
+    → ChangesTables (tables_with_cell c) (λ _. 1 ≤ c.touched) b d
+    → ChangesTables (with_cells (take (i + 1) cells)) (AreNumbered cells) a d
 one_put cells i c a b d low is so_far one =
     let next : i + 1 ≡ suc i = omega arith in
     let more : take (i + 1) cells ≡ take i cells ++ c ∷ [] = ap (λ n. take n cells) next
     ∙ (take-suc cells i c low ∙ ap (λ x. take i cells ++ x ∷ []) (sym is)) in
-    subst (λ list. Turns (with_cells list) (AreNumbered cells) a d) (sym more)
+    subst (λ list. ChangesTables (with_cells list) (AreNumbered cells) a d) (sym more)
     (cells_more (take i cells) c (AreNumbered cells) a b d
     (λ t all. subst (λ x. 1 ≤ x.touched) (sym is)
     (all-get_or (λ cell. 1 ≤ cell.touched) cells i c all low)) so_far one)
 
 pub all_put : (cells : List KeptCell) (i : ℕ) (a b : State) → i ≡ length cells
-    → Turns (with_cells (take i cells)) (AreNumbered cells) a b
-    → Turns (with_cells cells) (AreNumbered cells) a b
-all_put cells i a b end so_far = subst (λ list. Turns (with_cells list) (AreNumbered cells) a b)
+    → ChangesTables (with_cells (take i cells)) (AreNumbered cells) a b
+    → ChangesTables (with_cells cells) (AreNumbered cells) a b
+all_put cells i a b end so_far = subst (λ list. ChangesTables (with_cells list) (AreNumbered cells) a b)
     (ap (λ n. take n cells) end ∙ take-length cells) so_far
 
 -- ---- a batch
@@ -65,10 +65,10 @@ at_most number (cell ∷ cells) low all =
     (let same = all.0.0 in omega (arith, same, low), at_most number cells low all.1)
 
 pub batch_put : (batch : Batch) (a b c : State) → IsBatch batch
-    → Turns (with_entry batch.entry) (IsNext batch.entry) a b
-    → Turns (with_cells batch.cells) (AreNumbered batch.cells) b c
-    → Turns (with_batch batch) (IsNext batch.entry) a c
+    → ChangesTables (tables_with_entry batch.entry) (HasNextNumber batch.entry) a b
+    → ChangesTables (with_cells batch.cells) (AreNumbered batch.cells) b c
+    → ChangesTables (with_batch batch) (HasNextNumber batch.entry) a c
 batch_put batch a b c is one two =
-    turns_then (with_entry batch.entry) (with_cells batch.cells) (IsNext batch.entry)
-    (AreNumbered batch.cells) (IsNext batch.entry) a b c
+    turns_then (tables_with_entry batch.entry) (with_cells batch.cells) (HasNextNumber batch.entry)
+    (AreNumbered batch.cells) (HasNextNumber batch.entry) a b c
     (λ t next. (next, numbered batch.entry.seq batch.cells (omega (arith, next)) is.cells)) one two

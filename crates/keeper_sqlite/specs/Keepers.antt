@@ -9,7 +9,7 @@ use Rattle.sqlite.specs.Held.{Held, held_code, state}
 use Rattle.sqlite.specs.State.{State, HasCleanDisk}
 use Rattle.lei_outside.specs.Keeping.{KeptTables}
 use Rattle.store_tables.specs.Crash.{leaves_in}
-use Rattle.store_tables.specs.Told.{told_by, told_in}
+use Rattle.store_tables.specs.Told.{told_in, told_in_trees}
 
 -- A connection that a keeper has, and what it was when the keeper adopted it.
 pub record StoreState (S : Type 0) : Type 0 where
@@ -17,7 +17,7 @@ pub record StoreState (S : Type 0) : Type 0 where
   pub adopted : Held S
 
 -- A keeper: its connection, if it has one, and how many of its calls have failed.
-pub record KeeperState (S : Type 0) : Type 0 where
+pub record SqliteKeeperState (S : Type 0) : Type 0 where
   pub store : Option (StoreState S)
   pub faults : ℕ
 
@@ -27,7 +27,7 @@ store_code {S} s = code_by (Held S × Held S) (coded× (held_code s) (held_code 
     (λ p. record { conn = p.0; adopted = p.1 }) (λ _. refl)
 
 -- What is seen of a keeper, in coded form.
-abbrev pub keeper_code : {S : Type 0} → Coded S → Coded (KeeperState S)
+abbrev pub keeper_code : {S : Type 0} → Coded S → Coded (SqliteKeeperState S)
 keeper_code {S} s =
     code_by (Option (StoreState S) × ℕ) (coded× (coded_option (store_code s)) coded_ℕ)
     (λ x. (x.store, x.faults)) (λ p. record { store = p.0; faults = p.1 }) (λ _. refl)
@@ -83,7 +83,7 @@ may_stay_since true adopted now is = go (told_in now) refl
     go None e = tt
     go (Some t) e = λ _. (
       clean_told (now.is_open && not now.in_transaction)
-          (told_by now.now.schema now.now.trees) now.is_clean t e,
+          (told_in_trees now.now.schema now.now.trees) now.is_clean t e,
       inl (refl, sym e),
     )
 

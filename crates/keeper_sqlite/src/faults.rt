@@ -60,7 +60,7 @@ pub fn fault_of(error: Error) -> KeepFault
 }
 
 // The result of a call, with a failure counted. The count stops at its greatest value.
-pub fn counted<T>(faults: &mut u64, answer: Result<T, KeepFault>) -> Result<T, KeepFault>
+pub fn count_fault<T>(faults: &mut u64, answer: Result<T, KeepFault>) -> Result<T, KeepFault>
     ensures same { result ≡ answer }
     ensures count { faults.old ≤ faults.new }
     ensures faultless { ¬ (IsErrOf result KeepFault.Failed) → faults.new ≡ faults.old }

@@ -1,10 +1,10 @@
 //! A keeper over an SQLite database.
 ghost use Rattle.std.specs.Prelude.{◌≡◌, ◌≤◌, Option, None, Some, IfSome, IfOk, OnOk, IsErrOf, option_map};
 ghost use Rattle.lei_outside.specs.Count.{Rose};
-ghost use Rattle.lei_outside.specs.Keeping.{AreKept, CommitLeaves, Commits, IsBatch, IsNextOf, LeavesNoMore, Stays, cells_between, entries_between, last_number};
+ghost use Rattle.lei_outside.specs.Keeping.{AreKept, CommitLeaves, Commits, IsBatch, IsNextOf, LeavesNoMore, TablesStay, cells_between, entries_between, last_number};
 ghost use Rattle.keeper_sqlite.specs.Keepers.{leaves_from, tables_in};
 
-use crate::faults::{Cause, counted};
+use crate::faults::{Cause, count_fault};
 use crate::store::Store;
 use lei_outside::{Batch, KeepFault, Keeper, KeptCell, KeptEntry, List};
 use sqlite::{Alter, Connection, File, FileStore};
@@ -26,9 +26,9 @@ pub struct SqliteKeeper<S: Alter> {
 }
 
 impl<S: Alter> Model for SqliteKeeper<S> {
-    ghost use Rattle.keeper_sqlite.specs.Keepers.{KeeperState, keeper_code};
+    ghost use Rattle.keeper_sqlite.specs.Keepers.{SqliteKeeperState, keeper_code};
 
-    ghost Value = { KeeperState S };
+    ghost Value = { SqliteKeeperState S };
 
     ghost coded = { keeper_code S.code };
 
@@ -98,7 +98,7 @@ fn last_of<S: Alter>(store: &mut Option<Store<S>>) -> Result<u64, KeepFault>
     ensures answer { IfSome (tables_in S.Store store.new)
         (λ told. IfOk result (λ number. number ≡ last_number told)) }
     ensures kept { OnOk result (IfSome (tables_in S.Store store.new) AreKept) }
-    ensures same { Stays (tables_in S.Store store.old) (tables_in S.Store store.new) }
+    ensures same { TablesStay (tables_in S.Store store.old) (tables_in S.Store store.new) }
     ensures crash { LeavesNoMore (leaves_from S.Store store.old) (leaves_from S.Store store.new) }
 {
     match store {
@@ -114,7 +114,7 @@ fn entries_of<S: Alter>(
 ) -> Result<List<KeptEntry>, KeepFault>
     ensures answer { IfSome (tables_in S.Store store.new)
         (λ told. IfOk result (λ list. list ≡ entries_between after upto told)) }
-    ensures same { Stays (tables_in S.Store store.old) (tables_in S.Store store.new) }
+    ensures same { TablesStay (tables_in S.Store store.old) (tables_in S.Store store.new) }
     ensures crash { LeavesNoMore (leaves_from S.Store store.old) (leaves_from S.Store store.new) }
 {
     match store {
@@ -130,7 +130,7 @@ fn cells_of<S: Alter>(
 ) -> Result<List<KeptCell>, KeepFault>
     ensures answer { IfSome (tables_in S.Store store.new)
         (λ told. IfOk result (λ list. list ≡ cells_between after upto told)) }
-    ensures same { Stays (tables_in S.Store store.old) (tables_in S.Store store.new) }
+    ensures same { TablesStay (tables_in S.Store store.old) (tables_in S.Store store.new) }
     ensures crash { LeavesNoMore (leaves_from S.Store store.old) (leaves_from S.Store store.new) }
 {
     match store {
@@ -176,21 +176,21 @@ impl<S: Alter> Keeper for SqliteKeeper<S> {
 
     fn last(&mut self) -> Result<u64, KeepFault> {
         let answer = last_of(&mut self.store);
-        counted(&mut self.faults, answer)
+        count_fault(&mut self.faults, answer)
     }
 
     fn entries(&mut self, after: u64, upto: u64) -> Result<List<KeptEntry>, KeepFault> {
         let answer = entries_of(&mut self.store, after, upto);
-        counted(&mut self.faults, answer)
+        count_fault(&mut self.faults, answer)
     }
 
     fn cells(&mut self, after: u64, upto: u64) -> Result<List<KeptCell>, KeepFault> {
         let answer = cells_of(&mut self.store, after, upto);
-        counted(&mut self.faults, answer)
+        count_fault(&mut self.faults, answer)
     }
 
     fn commit(&mut self, batch: &Batch) -> Result<(), KeepFault> {
         let answer = commit_in(&mut self.store, batch);
-        counted(&mut self.faults, answer)
+        count_fault(&mut self.faults, answer)
     }
 }

@@ -4,7 +4,7 @@ ghost use Rattle.sqlite.specs.Effect.{IsDatabase};
 ghost use Rattle.sqlite.specs.Held.{state};
 ghost use Rattle.sqlite.specs.State.{HasCleanDisk, KeepsCommit, Survives};
 ghost use Rattle.store_statements.specs.Schemas.{both_schema, entry_schema, store_schema, whole_schema};
-ghost use Rattle.store_tables.specs.Calls.{IsBegun, IsFirst, IsInside, IsMade, IsUndone, Makes};
+ghost use Rattle.store_tables.specs.Calls.{IsFirst, IsInside, IsMade, IsNewSchema, IsUndone, Makes};
 ghost use Rattle.keeper_sqlite.specs.Transactions.{HasMade};
 
 use sqlite::{Alter, Connection, Error, Transaction};
@@ -58,7 +58,7 @@ fn make_entries<S: Alter>(tx: &mut Transaction<'_, S>) -> Result<usize, Error>
         → OnOk result (IsInside (state S.Store tx.old.conn.now) (state S.Store tx.new.conn.now)) }
     ensures makes { HasCleanDisk (state S.Store tx.new.conn.now)
         → IsTrue (state S.Store tx.old.conn.now).in_transaction
-        → IsBegun (state S.Store tx.old.conn.now).now.schema
+        → IsNewSchema (state S.Store tx.old.conn.now).now.schema
         → OnOk result (Makes entry_schema (state S.Store tx.old.conn.now) (state S.Store tx.new.conn.now)) }
     ensures keeps { HasCleanDisk (state S.Store tx.new.conn.now)
         → IsTrue (state S.Store tx.old.conn.now).in_transaction
@@ -131,7 +131,7 @@ fn make_both<S: Alter>(tx: &mut Transaction<'_, S>) -> Result<(), Error>
         → OnOk result (IsInside (state S.Store tx.old.conn.now) (state S.Store tx.new.conn.now)) }
     ensures makes { HasCleanDisk (state S.Store tx.new.conn.now)
         → IsTrue (state S.Store tx.old.conn.now).in_transaction
-        → IsBegun (state S.Store tx.old.conn.now).now.schema
+        → IsNewSchema (state S.Store tx.old.conn.now).now.schema
         → OnOk result (Makes both_schema (state S.Store tx.old.conn.now) (state S.Store tx.new.conn.now)) }
     ensures keeps { HasCleanDisk (state S.Store tx.new.conn.now)
         → IsTrue (state S.Store tx.old.conn.now).in_transaction
@@ -172,7 +172,7 @@ fn make_all<S: Alter>(tx: &mut Transaction<'_, S>) -> Result<(), Error>
         → OnOk result (IsInside (state S.Store tx.old.conn.now) (state S.Store tx.new.conn.now)) }
     ensures makes { HasCleanDisk (state S.Store tx.new.conn.now)
         → IsTrue (state S.Store tx.old.conn.now).in_transaction
-        → IsBegun (state S.Store tx.old.conn.now).now.schema
+        → IsNewSchema (state S.Store tx.old.conn.now).now.schema
         → OnOk result (Makes whole_schema (state S.Store tx.old.conn.now) (state S.Store tx.new.conn.now)
         × IsDatabase (state S.Store tx.new.conn.now).now) }
     ensures keeps { HasCleanDisk (state S.Store tx.new.conn.now)
@@ -189,11 +189,11 @@ fn make_all<S: Alter>(tx: &mut Transaction<'_, S>) -> Result<(), Error>
 pub fn make_tables<S: Alter>(conn: &mut Connection<S>) -> Result<(), Error>
     requires { conn.old.in_transaction ≡ false }
     ensures mode { conn.new.in_transaction ≡ false }
-    ensures made { HasCleanDisk (state S.Store conn.new) → IsBegun (state S.Store conn.old).now.schema
+    ensures made { HasCleanDisk (state S.Store conn.new) → IsNewSchema (state S.Store conn.old).now.schema
         → OnOk result (HasMade (state S.Store conn.old) (state S.Store conn.new)) }
     ensures undone { HasCleanDisk (state S.Store conn.new)
         → OnErr result (IsUndone (state S.Store conn.old) (state S.Store conn.new)) }
-    ensures survives { IsBegun (state S.Store conn.old).now.schema
+    ensures survives { IsNewSchema (state S.Store conn.old).now.schema
         → Survives (state S.Store conn.old) (state S.Store conn.new) (IsMade (state S.Store conn.old)) }
 {
     let mut tx = conn.transaction();

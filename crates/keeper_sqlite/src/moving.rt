@@ -5,7 +5,7 @@ ghost use Rattle.sqlite_value.specs.Value.{owned};
 ghost use Rattle.sqlite.specs.Values.{bound_value};
 ghost use Rattle.sqlite.specs.Held.{state};
 ghost use Rattle.sqlite.specs.State.{HasCleanDisk, KeepsCommit, Survives};
-ghost use Rattle.store_tables.specs.Calls.{Carries, Clears, Copies, Forms, IsUndone, IsWhole, Moves, ReadsPage};
+ghost use Rattle.store_tables.specs.Calls.{Carries, Clears, Forms, IsUndone, IsWholeStore, Moves, MovesPage, ReadsPage};
 ghost use Rattle.keeper_sqlite.specs.Transactions.{HasMoved, IsMoved};
 
 use crate::rows::{first_cells_of, last_row_id};
@@ -105,7 +105,8 @@ fn copy_page<S: Alter>(
     ensures copies { HasCleanDisk (state S.Store tx.new.conn.now)
         → IsTrue (state S.Store tx.old.conn.now).in_transaction
         → IsTrue (state S.Store tx.old.conn.now).is_open
-        → OnOk result (Copies page.now last (state S.Store tx.old.conn.now) (state S.Store tx.new.conn.now)) }
+        → OnOk result (MovesPage page.now last (state S.Store tx.old.conn.now)
+        (state S.Store tx.new.conn.now)) }
     ensures keeps { HasCleanDisk (state S.Store tx.new.conn.now)
         → IsTrue (state S.Store tx.old.conn.now).in_transaction
         → IsTrue (state S.Store tx.old.conn.now).is_open
@@ -180,7 +181,7 @@ fn move_all<S: Alter>(tx: &mut Transaction<'_, S>, alloc: Global) -> Result<(), 
 pub fn move_cells<S: Alter>(conn: &mut Connection<S>, alloc: Global) -> Result<(), Stop>
     requires { conn.old.in_transaction ≡ false }
     ensures mode { conn.new.in_transaction ≡ false }
-    ensures moved { HasCleanDisk (state S.Store conn.new) → IsWhole (state S.Store conn.old)
+    ensures moved { HasCleanDisk (state S.Store conn.new) → IsWholeStore (state S.Store conn.old)
         → (state S.Store conn.old).now.trees 4 ≡ []
         → OnOk result (HasMoved (state S.Store conn.old) (state S.Store conn.new)) }
     ensures undone { HasCleanDisk (state S.Store conn.new)

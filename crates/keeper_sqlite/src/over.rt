@@ -3,10 +3,10 @@ ghost use Rattle.std.specs.Prelude.{◌≡◌, ◌⊎◌, [], ◌∷◌, false, 
 ghost use Rattle.sqlite.specs.Held.{state};
 ghost use Rattle.sqlite.specs.State.{HasCleanDisk};
 ghost use Rattle.lei_outside.specs.Keeping.{IsBatch, KeptTables, cells_between, entries_between, last_number};
-ghost use Rattle.store_tables.specs.Calls.{IsBegun, IsFirst, IsReady, IsSteady, IsWhole, last_rows};
+ghost use Rattle.store_tables.specs.Calls.{IsFirst, IsNewSchema, IsReadyStore, IsSteady, IsWholeStore, last_rows};
 ghost use Rattle.store_tables.specs.Stored.{second_row};
-ghost use Rattle.store_tables.specs.Told.{told_by};
-ghost use Rattle.keeper_sqlite.specs.Transactions.{Ends, HasForm};
+ghost use Rattle.store_tables.specs.Told.{told_in_trees};
+ghost use Rattle.keeper_sqlite.specs.Transactions.{EndsCommit, HasForm};
 
 use crate::faults::Cause;
 use crate::making::{add_tables, make_tables};
@@ -33,7 +33,7 @@ enum Form {
 // Makes all tables, if there is none but that of the entries.
 fn make<S: Alter>(conn: &mut Connection<S>, cause: &mut Cause) -> Result<(), KeepFault>
     requires mode { conn.old.in_transaction ≡ false }
-    requires begun { IsBegun (state S.Store conn.old).now.schema }
+    requires begun { IsNewSchema (state S.Store conn.old).now.schema }
     requires settled { IsTrue (state S.Store conn.old).is_open
         → (state S.Store conn.old).now ≡ (state S.Store conn.old).committed }
     ensures steady { IsSteady (state S.Store conn.old) (state S.Store conn.new) }
@@ -96,7 +96,7 @@ fn form_in(rows: &[Row]) -> Form
 // The form of a store that was found to have all four tables.
 fn known_form<S: Alter>(conn: &mut Connection<S>, cause: &mut Cause) -> Result<Form, KeepFault>
     requires mode { conn.old.in_transaction ≡ false }
-    requires whole { IsWhole (state S.Store conn.old) }
+    requires whole { IsWholeStore (state S.Store conn.old) }
     ensures steady { IsSteady (state S.Store conn.old) (state S.Store conn.new) }
     ensures mode { conn.new.in_transaction ≡ false }
     ensures form { HasCleanDisk (state S.Store conn.new)
@@ -127,7 +127,7 @@ fn form_of<S: Alter>(conn: &mut Connection<S>, cause: &mut Cause) -> Result<Form
 
 // Whether a store has cells of form 2.
 fn has_cells<S: Alter>(conn: &mut Connection<S>, cause: &mut Cause) -> Result<bool, KeepFault>
-    requires whole { HasCleanDisk (state S.Store conn.old) → IsWhole (state S.Store conn.old) }
+    requires whole { HasCleanDisk (state S.Store conn.old) → IsWholeStore (state S.Store conn.old) }
     ensures steady { IsSteady (state S.Store conn.old) (state S.Store conn.new) }
 {
     match read_cells(conn, 0, u64::MAX) {
@@ -160,7 +160,7 @@ fn upgrade<S: Alter>(
     alloc: Global,
     cause: &mut Cause,
 ) -> Result<(), KeepFault>
-    requires whole { HasCleanDisk (state S.Store conn.old) → IsWhole (state S.Store conn.old) }
+    requires whole { HasCleanDisk (state S.Store conn.old) → IsWholeStore (state S.Store conn.old) }
     ensures steady { IsSteady (state S.Store conn.old) (state S.Store conn.new) }
 {
     if has_cells(conn, cause)? {
@@ -187,7 +187,8 @@ fn move_first<S: Alter>(
 fn confirm<S: Alter>(conn: &mut Connection<S>, cause: &mut Cause) -> Result<(), KeepFault>
     ensures steady { IsSteady (state S.Store conn.old) (state S.Store conn.new) }
     ensures mode { OnOk result (conn.new.in_transaction ≡ false) }
-    ensures ready { HasCleanDisk (state S.Store conn.new) → OnOk result (IsReady (state S.Store conn.new)) }
+    ensures ready { HasCleanDisk (state S.Store conn.new)
+        → OnOk result (IsReadyStore (state S.Store conn.new)) }
 {
     match form_of(conn, cause)? {
         Form::Second => Ok(()),
@@ -201,10 +202,11 @@ fn upgrade_fully<S: Alter>(
     alloc: Global,
     cause: &mut Cause,
 ) -> Result<(), KeepFault>
-    requires whole { HasCleanDisk (state S.Store conn.old) → IsWhole (state S.Store conn.old) }
+    requires whole { HasCleanDisk (state S.Store conn.old) → IsWholeStore (state S.Store conn.old) }
     ensures steady { IsSteady (state S.Store conn.old) (state S.Store conn.new) }
     ensures mode { OnOk result (conn.new.in_transaction ≡ false) }
-    ensures ready { HasCleanDisk (state S.Store conn.new) → OnOk result (IsReady (state S.Store conn.new)) }
+    ensures ready { HasCleanDisk (state S.Store conn.new)
+        → OnOk result (IsReadyStore (state S.Store conn.new)) }
 {
     upgrade(conn, alloc, cause)?;
     confirm(conn, cause)
@@ -218,7 +220,8 @@ fn settle<S: Alter>(
 ) -> Result<(), KeepFault>
     ensures steady { IsSteady (state S.Store conn.old) (state S.Store conn.new) }
     ensures mode { OnOk result (conn.new.in_transaction ≡ false) }
-    ensures ready { HasCleanDisk (state S.Store conn.new) → OnOk result (IsReady (state S.Store conn.new)) }
+    ensures ready { HasCleanDisk (state S.Store conn.new)
+        → OnOk result (IsReadyStore (state S.Store conn.new)) }
 {
     match form_of(conn, cause)? {
         Form::Second => Ok(()),
@@ -235,7 +238,8 @@ pub fn prepare<S: Alter>(
 ) -> Result<(), KeepFault>
     ensures steady { IsSteady (state S.Store conn.old) (state S.Store conn.new) }
     ensures mode { OnOk result (conn.new.in_transaction ≡ false) }
-    ensures ready { HasCleanDisk (state S.Store conn.new) → OnOk result (IsReady (state S.Store conn.new)) }
+    ensures ready { HasCleanDisk (state S.Store conn.new)
+        → OnOk result (IsReadyStore (state S.Store conn.new)) }
 {
     // If nothing else is noted of a failure, the cause is a row.
     *cause = Cause::Row;
@@ -261,7 +265,8 @@ pub fn last<S: Alter>(
 ) -> Result<u64, KeepFault>
     ensures steady { IsSteady (state S.Store conn.old) (state S.Store conn.new) }
     ensures answer { HasCleanDisk (state S.Store conn.new) → IfOk result (λ number.
-        (t : KeptTables) → told_by (state S.Store conn.new).now.schema (state S.Store conn.new).now.trees
+        (t : KeptTables) → told_in_trees (state S.Store conn.new).now.schema
+        (state S.Store conn.new).now.trees
         ≡ Some t → number ≡ last_number t) }
 {
     prepare(conn, alloc, cause)?;
@@ -281,7 +286,8 @@ pub fn entries<S: Alter>(
 ) -> Result<List<KeptEntry>, KeepFault>
     ensures steady { IsSteady (state S.Store conn.old) (state S.Store conn.new) }
     ensures answer { HasCleanDisk (state S.Store conn.new) → IfOk result (λ list.
-        (t : KeptTables) → told_by (state S.Store conn.new).now.schema (state S.Store conn.new).now.trees
+        (t : KeptTables) → told_in_trees (state S.Store conn.new).now.schema
+        (state S.Store conn.new).now.trees
         ≡ Some t → list ≡ entries_between after upto t) }
 {
     prepare(conn, alloc, cause)?;
@@ -302,7 +308,8 @@ pub fn cells<S: Alter>(
 ) -> Result<List<KeptCell>, KeepFault>
     ensures steady { IsSteady (state S.Store conn.old) (state S.Store conn.new) }
     ensures answer { HasCleanDisk (state S.Store conn.new) → IfOk result (λ list.
-        (t : KeptTables) → told_by (state S.Store conn.new).now.schema (state S.Store conn.new).now.trees
+        (t : KeptTables) → told_in_trees (state S.Store conn.new).now.schema
+        (state S.Store conn.new).now.trees
         ≡ Some t → list ≡ cells_between after upto t) }
 {
     prepare(conn, alloc, cause)?;
@@ -320,8 +327,8 @@ fn keep<S: Alter>(
 ) -> Result<(), KeepFault>
     requires batch { IsBatch batch.now }
     requires mode { conn.old.in_transaction ≡ false }
-    requires ready { HasCleanDisk (state S.Store conn.old) → IsReady (state S.Store conn.old) }
-    ensures { Ends batch.now result (state S.Store conn.old) (state S.Store conn.new) }
+    requires ready { HasCleanDisk (state S.Store conn.old) → IsReadyStore (state S.Store conn.old) }
+    ensures { EndsCommit batch.now result (state S.Store conn.old) (state S.Store conn.new) }
 {
     match write(conn, batch) {
         Ok(()) => Ok(()),
@@ -337,7 +344,7 @@ pub fn commit<S: Alter>(
     cause: &mut Cause,
 ) -> Result<(), KeepFault>
     requires { IsBatch batch.now }
-    ensures { Ends batch.now result (state S.Store conn.old) (state S.Store conn.new) }
+    ensures { EndsCommit batch.now result (state S.Store conn.old) (state S.Store conn.new) }
 {
     match prepare(conn, alloc, cause) {
         Ok(()) => keep(conn, batch, cause),

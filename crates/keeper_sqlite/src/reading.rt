@@ -7,8 +7,8 @@ ghost use Rattle.sqlite.specs.Held.{state};
 ghost use Rattle.sqlite.specs.State.{HasCleanDisk};
 ghost use Rattle.lei_outside.specs.Keeping.{KeptTables, cells_between, entries_between};
 ghost use Rattle.store_statements.specs.Rows.{cell_row, entry_row};
-ghost use Rattle.store_tables.specs.Calls.{IsReady, IsSteady, IsWhole, ReadsForm, last_rows};
-ghost use Rattle.store_tables.specs.Told.{told_by};
+ghost use Rattle.store_tables.specs.Calls.{IsReadyStore, IsSteady, IsWholeStore, ReadsForm, last_rows};
+ghost use Rattle.store_tables.specs.Told.{told_in_trees};
 
 use sqlite::types::ValueRef;
 use sqlite::{Alter, Connection, Error, Row};
@@ -29,10 +29,11 @@ const FORM: &'static str = "SELECT one, form FROM store LIMIT 2";
 
 // The row with the greatest number of an entry, or no row if there is no entry.
 pub fn read_last<S: Alter>(conn: &mut Connection<S>) -> Result<Vec<Row>, Error>
-    requires ready { HasCleanDisk (state S.Store conn.old) → IsReady (state S.Store conn.old) }
+    requires ready { HasCleanDisk (state S.Store conn.old) → IsReadyStore (state S.Store conn.old) }
     ensures steady { IsSteady (state S.Store conn.old) (state S.Store conn.new) }
     ensures answer { HasCleanDisk (state S.Store conn.new) → IfOk result (λ rows.
-        (t : KeptTables) → told_by (state S.Store conn.new).now.schema (state S.Store conn.new).now.trees
+        (t : KeptTables) → told_in_trees (state S.Store conn.new).now.schema
+        (state S.Store conn.new).now.trees
         ≡ Some t → rows.items ≡ last_rows t) }
 {
     conn.query_all(LAST, &[])
@@ -44,10 +45,11 @@ pub fn read_entries<S: Alter>(
     after: u64,
     upto: u64,
 ) -> Result<Vec<Row>, Error>
-    requires ready { HasCleanDisk (state S.Store conn.old) → IsReady (state S.Store conn.old) }
+    requires ready { HasCleanDisk (state S.Store conn.old) → IsReadyStore (state S.Store conn.old) }
     ensures steady { IsSteady (state S.Store conn.old) (state S.Store conn.new) }
     ensures answer { HasCleanDisk (state S.Store conn.new) → IfOk result (λ rows.
-        (t : KeptTables) → told_by (state S.Store conn.new).now.schema (state S.Store conn.new).now.trees
+        (t : KeptTables) → told_in_trees (state S.Store conn.new).now.schema
+        (state S.Store conn.new).now.trees
         ≡ Some t
         → rows.items ≡ map entry_row (entries_between after upto t)) }
 {
@@ -61,11 +63,12 @@ pub fn read_cells<S: Alter>(
     after: u64,
     upto: u64,
 ) -> Result<Vec<Row>, Error>
-    requires whole { HasCleanDisk (state S.Store conn.old) → IsWhole (state S.Store conn.old) }
+    requires whole { HasCleanDisk (state S.Store conn.old) → IsWholeStore (state S.Store conn.old) }
     ensures steady { IsSteady (state S.Store conn.old) (state S.Store conn.new) }
-    ensures answer { HasCleanDisk (state S.Store conn.new) → IsReady (state S.Store conn.old)
+    ensures answer { HasCleanDisk (state S.Store conn.new) → IsReadyStore (state S.Store conn.old)
         → IfOk result (λ rows.
-        (t : KeptTables) → told_by (state S.Store conn.new).now.schema (state S.Store conn.new).now.trees
+        (t : KeptTables) → told_in_trees (state S.Store conn.new).now.schema
+        (state S.Store conn.new).now.trees
         ≡ Some t
         → rows.items ≡ map cell_row (cells_between after upto t)) }
 {
@@ -74,7 +77,7 @@ pub fn read_cells<S: Alter>(
 
 // The rows of the table of the form, two at most.
 pub fn read_form<S: Alter>(conn: &mut Connection<S>) -> Result<Vec<Row>, Error>
-    requires whole { HasCleanDisk (state S.Store conn.old) → IsWhole (state S.Store conn.old) }
+    requires whole { HasCleanDisk (state S.Store conn.old) → IsWholeStore (state S.Store conn.old) }
     ensures steady { IsSteady (state S.Store conn.old) (state S.Store conn.new) }
     ensures mode { conn.old.in_transaction ≡ false → conn.new.in_transaction ≡ false }
     ensures form { HasCleanDisk (state S.Store conn.new) → IfOk result (λ rows.

@@ -5,7 +5,7 @@ ghost use Rattle.sqlite_value.specs.declared.value.Value.TheVariants.{Null, Int,
 ghost use Rattle.sqlite_value.specs.Order.{column};
 ghost use Rattle.sqlite_value.specs.Value.{owned};
 ghost use Rattle.sqlite.specs.Values.{bound, bound_value, or_null};
-ghost use Rattle.store_statements.specs.Names.{AreParts, lei_of, rest_of};
+ghost use Rattle.store_statements.specs.Names.{AreNameParts, lei_of, rest_of};
 ghost use Rattle.store_statements.specs.Rows.{IsCellRow, IsEntryRow, cell_row, entry_row};
 ghost use Rattle.store_tables.specs.Calls.{last_id};
 ghost use Rattle.store_tables.specs.Stored.{form_1, second_row};
@@ -157,18 +157,18 @@ fn name_in(alloc: Global, row: &Row) -> Result<Bytes, KeepFault>
     if !are_parts(lei, rest) {
         return Err(KeepFault::Failed);
     }
-    Ok(joined(alloc, lei, rest)?)
+    Ok(join_name(alloc, lei, rest)?)
 }
 
 // Whether two texts are the parts of a name: nothing follows a first part that is shorter than an LEI.
 fn are_parts(lei: &[u8], rest: &[u8]) -> bool
-    ensures { IsTrue result ↔ AreParts lei.now rest.now }
+    ensures { IsTrue result ↔ AreNameParts lei.now rest.now }
 {
     lei.len() == LEI_LENGTH || (lei.len() < LEI_LENGTH && rest.is_empty())
 }
 
 // Both parts of a name joined.
-fn joined(alloc: Global, lei: &[u8], rest: &[u8]) -> Result<Bytes, NoMemory>
+fn join_name(alloc: Global, lei: &[u8], rest: &[u8]) -> Result<Bytes, NoMemory>
     ensures { IfOk result (λ name. name ≡ lei.now ++ rest.now) }
 {
     let mut name = Vec::with_capacity(alloc, lei.len().saturating_add(rest.len()))?;

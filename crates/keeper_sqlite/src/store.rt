@@ -1,6 +1,6 @@
 // A connection that a keeper adopted, and what each call of the keeper does to it.
 ghost use Rattle.std.specs.Prelude.{◌≡◌, IfSome, IfOk, OnOk};
-ghost use Rattle.lei_outside.specs.Keeping.{AreKept, CommitLeaves, Commits, IsBatch, IsNextOf, LeavesNoMore, Stays, cells_between, entries_between, last_number};
+ghost use Rattle.lei_outside.specs.Keeping.{AreKept, CommitLeaves, Commits, IsBatch, IsNextOf, LeavesNoMore, TablesStay, cells_between, entries_between, last_number};
 ghost use Rattle.keeper_sqlite.specs.Keepers.{leaves_of, tables_of};
 
 use crate::faults::Cause;
@@ -65,7 +65,7 @@ impl<S: Alter> Store<S> {
         ensures answer { IfSome (tables_of S.Store self.new)
             (λ told. IfOk result (λ number. number ≡ last_number told)) }
         ensures kept { OnOk result (IfSome (tables_of S.Store self.new) AreKept) }
-        ensures same { Stays (tables_of S.Store self.old) (tables_of S.Store self.new) }
+        ensures same { TablesStay (tables_of S.Store self.old) (tables_of S.Store self.new) }
         ensures crash { LeavesNoMore (leaves_of S.Store self.old) (leaves_of S.Store self.new) }
     {
         over::last(&mut self.conn, self.alloc, &mut self.cause)
@@ -74,7 +74,7 @@ impl<S: Alter> Store<S> {
     pub fn entries(&mut self, after: u64, upto: u64) -> Result<List<KeptEntry>, KeepFault>
         ensures answer { IfSome (tables_of S.Store self.new)
             (λ told. IfOk result (λ list. list ≡ entries_between after upto told)) }
-        ensures same { Stays (tables_of S.Store self.old) (tables_of S.Store self.new) }
+        ensures same { TablesStay (tables_of S.Store self.old) (tables_of S.Store self.new) }
         ensures crash { LeavesNoMore (leaves_of S.Store self.old) (leaves_of S.Store self.new) }
     {
         over::entries(&mut self.conn, self.alloc, after, upto, &mut self.cause)
@@ -83,7 +83,7 @@ impl<S: Alter> Store<S> {
     pub fn cells(&mut self, after: u64, upto: u64) -> Result<List<KeptCell>, KeepFault>
         ensures answer { IfSome (tables_of S.Store self.new)
             (λ told. IfOk result (λ list. list ≡ cells_between after upto told)) }
-        ensures same { Stays (tables_of S.Store self.old) (tables_of S.Store self.new) }
+        ensures same { TablesStay (tables_of S.Store self.old) (tables_of S.Store self.new) }
         ensures crash { LeavesNoMore (leaves_of S.Store self.old) (leaves_of S.Store self.new) }
     {
         over::cells(&mut self.conn, self.alloc, after, upto, &mut self.cause)

@@ -4,7 +4,7 @@ ghost use Rattle.std.specs.List.{AllByRecursion};
 ghost use Rattle.sqlite.specs.Held.{state};
 ghost use Rattle.sqlite.specs.State.{HasCleanDisk, KeepsCommit, Survives};
 ghost use Rattle.lei_outside.specs.Keeping.{IsBatch, with_batch};
-ghost use Rattle.store_tables.specs.Calls.{IsKept, IsNext, IsUndone, Turns, with_cell, with_cells, with_entry};
+ghost use Rattle.store_tables.specs.Calls.{ChangesTables, HasNextNumber, IsUndone, KeepsBatch, tables_with_cell, tables_with_entry, with_cells};
 ghost use Rattle.keeper_sqlite.specs.Transactions.{HasKept};
 
 use crate::rows::{cell_values, entry_values};
@@ -28,7 +28,8 @@ pub fn insert_entry<S: Alter>(
     ensures same_reference { tx.new.conn.ghost_name ≡ tx.old.conn.ghost_name }
     ensures adds { HasCleanDisk (state S.Store tx.new.conn.now)
         → IsTrue (state S.Store tx.old.conn.now).in_transaction
-        → OnOk result (Turns (with_entry entry.now) (IsNext entry.now) (state S.Store tx.old.conn.now)
+        → OnOk result (ChangesTables (tables_with_entry entry.now) (HasNextNumber entry.now)
+        (state S.Store tx.old.conn.now)
         (state S.Store tx.new.conn.now)) }
     ensures keeps { HasCleanDisk (state S.Store tx.new.conn.now)
         → IsTrue (state S.Store tx.old.conn.now).in_transaction
@@ -44,7 +45,8 @@ fn put_cell<S: Alter>(tx: &mut Transaction<'_, S>, cell: &KeptCell) -> Result<us
     ensures same_reference { tx.new.conn.ghost_name ≡ tx.old.conn.ghost_name }
     ensures puts { HasCleanDisk (state S.Store tx.new.conn.now)
         → IsTrue (state S.Store tx.old.conn.now).in_transaction
-        → OnOk result (Turns (with_cell cell.now) (λ _. 1 ≤ cell.now.touched) (state S.Store tx.old.conn.now)
+        → OnOk result (ChangesTables (tables_with_cell cell.now)
+        (λ _. 1 ≤ cell.now.touched) (state S.Store tx.old.conn.now)
         (state S.Store tx.new.conn.now)) }
     ensures keeps { HasCleanDisk (state S.Store tx.new.conn.now)
         → IsTrue (state S.Store tx.old.conn.now).in_transaction
@@ -61,7 +63,8 @@ pub fn put_cells<S: Alter>(tx: &mut Transaction<'_, S>, cells: &[KeptCell]) -> R
     ensures puts { HasCleanDisk (state S.Store tx.new.conn.now)
         → IsTrue (state S.Store tx.old.conn.now).in_transaction
         → IsTrue (state S.Store tx.old.conn.now).is_open
-        → OnOk result (Turns (with_cells cells.now) (λ _. AllByRecursion (λ cell. 1 ≤ cell.touched) cells.now)
+        → OnOk result (ChangesTables (with_cells cells.now)
+        (λ _. AllByRecursion (λ cell. 1 ≤ cell.touched) cells.now)
         (state S.Store tx.old.conn.now) (state S.Store tx.new.conn.now)) }
     ensures keeps { HasCleanDisk (state S.Store tx.new.conn.now)
         → IsTrue (state S.Store tx.old.conn.now).in_transaction
@@ -81,7 +84,8 @@ fn put_batch<S: Alter>(tx: &mut Transaction<'_, S>, batch: &Batch) -> Result<(),
     ensures same_reference { tx.new.conn.ghost_name ≡ tx.old.conn.ghost_name }
     ensures puts { HasCleanDisk (state S.Store tx.new.conn.now)
         → IsTrue (state S.Store tx.old.conn.now).in_transaction
-        → OnOk result (Turns (with_batch batch.now) (IsNext batch.now.entry) (state S.Store tx.old.conn.now)
+        → OnOk result (ChangesTables (with_batch batch.now) (HasNextNumber batch.now.entry)
+        (state S.Store tx.old.conn.now)
         (state S.Store tx.new.conn.now)) }
     ensures keeps { HasCleanDisk (state S.Store tx.new.conn.now)
         → IsTrue (state S.Store tx.old.conn.now).in_transaction
@@ -103,7 +107,7 @@ pub fn write<S: Alter>(conn: &mut Connection<S>, batch: &Batch) -> Result<(), Er
     ensures undone { HasCleanDisk (state S.Store conn.new)
         → OnErr result (IsUndone (state S.Store conn.old) (state S.Store conn.new)) }
     ensures survives { Survives (state S.Store conn.old) (state S.Store conn.new)
-        (IsKept batch.now (state S.Store conn.old)) }
+        (KeepsBatch batch.now (state S.Store conn.old)) }
 {
     let mut tx = conn.transaction();
     put_batch(&mut tx, batch)?;

@@ -8,7 +8,7 @@ use Rattle.std.proofs.lemmas.Bool.Decides.{nat_tests}
 use Rattle.lei_code.specs.declared.fault.LeiFault.{LeiFault}
 use Rattle.lei_code.specs.declared.fault.LeiFault.TheVariants.{Length, Character, CheckDigits}
 use Rattle.lei_code.specs.Number.{number}
-use Rattle.lei_code.specs.Code.{character, may_stand, IsWellFormed, IsValid}
+use Rattle.lei_code.specs.Code.{character, may_be_at, IsWellFormed, IsValid}
 use Rattle.lei_code.specs.Fault.{IsFirstWrong, IsCharacterFault, IsFault, first_wrong, character_fault, fault_of}
 
 -- what a search through n numbers starting with a finds: none, or the first
@@ -45,7 +45,7 @@ false_from-not false e h = cc
 pub first_wrong-tells : (text : List ℕ) → MatchOption (first_wrong text) (IsWellFormed text) (IsFirstWrong text)
 unfolding first_wrong
 first_wrong-tells text = told text _ (find-range _ 1 (length text)) where
-  told : (text : List ℕ) (found : Option ℕ) → IsFirst (λ place. not (may_stand place (character text place))) 1 (length text) found → MatchOption found (IsWellFormed text) (IsFirstWrong text)
+  told : (text : List ℕ) (found : Option ℕ) → IsFirst (λ place. not (may_be_at place (character text place))) 1 (length text) found → MatchOption found (IsWellFormed text) (IsFirstWrong text)
   told text None none = record { each = λ place low high. true_from-not _ (none place low (omega arith)) }
   told text (Some place) (low, high, wrong, before) = record {
     counted = low;

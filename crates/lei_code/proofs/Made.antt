@@ -5,11 +5,11 @@ use Rattle.std.proofs.lemmas.Bool.Decides.{nat_tests}
 use Rattle.std.proofs.lemmas.List.{get_or-append_right}
 use Rattle.std.specs.Prelude.{codes, IsTrue}
 use Rattle.lei_code.specs.Number.{number}
-use Rattle.lei_code.specs.Code.{may_stand, IsWellFormed, IsValid}
+use Rattle.lei_code.specs.Code.{may_be_at, IsWellFormed, IsValid}
 use Rattle.lei_code.specs.Digits.{two_digits, digits}
 use Rattle.lei_code.proofs.Numbers.{number-nil, number-digit}
 use Rattle.lei_code.proofs.Faults.{character_fault-at, character_fault-none}
-use Rattle.lei_code.proofs.Places.{IsWellFormedTo, may_stand-digit, well_formed_more}
+use Rattle.lei_code.proofs.Places.{IsWellFormedTo, may_be_at-digit, well_formed_more}
 
 push-two : (text : List ℕ) (a b : ℕ) → text ++ a ∷ b ∷ [] ≡ (text ++ a ∷ []) ++ b ∷ []
 push-two text a b = sym (append_assoc text (a ∷ []) (b ∷ []))
@@ -53,8 +53,8 @@ well_formed-push_two text tens ones len all t o =
     rw (get_or-append text ((48 + tens) ∷ (48 + ones) ∷ []) 0 (place - 1) before) (all.each place low (omega arith)) in
     let at_18 : get_or whole 18 0 ≡ 48 + tens = get_or-append_right text ((48 + tens) ∷ (48 + ones) ∷ []) 18 18 0 len (omega arith) in
     let at_19 : get_or whole 19 0 ≡ 48 + ones = get_or-append_right text ((48 + tens) ∷ (48 + ones) ∷ []) 18 19 0 len (omega arith) in
-    let to_19 = well_formed_more whole 18 front (rw at_18 (may_stand-digit 19 (48 + tens) (omega arith) (omega arith))) in
-    let to_20 = well_formed_more whole 19 to_19 (rw at_19 (may_stand-digit 20 (48 + ones) (omega arith) (omega arith))) in
+    let to_19 = well_formed_more whole 18 front (rw at_18 (may_be_at-digit 19 (48 + tens) (omega arith) (omega arith))) in
+    let to_20 = well_formed_more whole 19 to_19 (rw at_19 (may_be_at-digit 20 (48 + ones) (omega arith) (omega arith))) in
     record { each = λ place low high. to_20 place low (omega (arith, length-append text ((48 + tens) ∷ (48 + ones) ∷ []))) }
 
 remainder-digits : (text : List ℕ) → number (text ++ digits text) % 97 ≡ 1
@@ -89,7 +89,7 @@ made_at_most_98 text r e = rw (digits-value text r e) (at_most_98 text)
 -- the rules of `check_digits`
 pub ruleset made_digits = (character_fault-at, character_fault-none, digits-value, made_at_least_2, made_at_most_98)
 
-is_digit-at_end : (place c : ℕ) → 18 < place → IsTrue (may_stand place c) → (48 ≤ c) × (c ≤ 57)
+is_digit-at_end : (place c : ℕ) → 18 < place → IsTrue (may_be_at place c) → (48 ≤ c) × (c ≤ 57)
 is_digit-at_end place c late stands = (grind (arith, nat_tests), grind (arith, nat_tests))
 
 -- the character after 18 others, and the one after that

@@ -6,20 +6,20 @@ use Rattle.std.proofs.lemmas.Bool.Decides.{nat_tests}
 use Rattle.std.specs.Str.{IsAscii, IsUtf8}
 use Rattle.std.proofs.lemmas.List.{get_or_past}
 use Rattle.std.proofs.lemmas.Str.{IsUtf8-from_ascii}
-use Rattle.lei_code.specs.Code.{character, may_stand, IsWellFormed, IsValid}
+use Rattle.lei_code.specs.Code.{character, may_be_at, IsWellFormed, IsValid}
 
 -- the first n places have characters that are allowed there
 abbrev pub IsWellFormedTo : List ℕ → ℕ → Type 0
-IsWellFormedTo text n = (place : ℕ) → 1 ≤ place → place ≤ n → IsTrue (may_stand place (character text place))
+IsWellFormedTo text n = (place : ℕ) → 1 ≤ place → place ≤ n → IsTrue (may_be_at place (character text place))
 
-pub may_stand-digit : (place c : ℕ) → 48 ≤ c → c ≤ 57 → IsTrue (may_stand place c)
-may_stand-digit place c low high = grind (arith, nat_tests)
+pub may_be_at-digit : (place c : ℕ) → 48 ≤ c → c ≤ 57 → IsTrue (may_be_at place c)
+may_be_at-digit place c low high = grind (arith, nat_tests)
 
-pub may_stand-letter : (place c : ℕ) → place ≤ 18 → 65 ≤ c → c ≤ 90 → IsTrue (may_stand place c)
-may_stand-letter place c first low high = grind (arith, nat_tests)
+pub may_be_at-letter : (place c : ℕ) → place ≤ 18 → 65 ≤ c → c ≤ 90 → IsTrue (may_be_at place c)
+may_be_at-letter place c first low high = grind (arith, nat_tests)
 
 -- one place more
-pub well_formed_more : (text : List ℕ) (i : ℕ) → IsWellFormedTo text i → IsTrue (may_stand (i + 1) (get_or text i 0)) → IsWellFormedTo text (i + 1)
+pub well_formed_more : (text : List ℕ) (i : ℕ) → IsWellFormedTo text i → IsTrue (may_be_at (i + 1) (get_or text i 0)) → IsWellFormedTo text (i + 1)
 well_formed_more text i before here place low high =
     elim (cases_lt i place) [
       | inl h ↦ (let e : place ≡ i + 1 = omega arith in
@@ -28,7 +28,7 @@ well_formed_more text i before here place low high =
       | inr h ↦ before place low h
     ]
 
-below_ascii : (place c : ℕ) → IsTrue (may_stand place c) → c < 128
+below_ascii : (place c : ℕ) → IsTrue (may_be_at place c) → c < 128
 below_ascii place c stands = grind (arith, nat_tests)
 
 -- a code is ASCII

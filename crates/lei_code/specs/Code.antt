@@ -9,13 +9,13 @@ abbrev pub character : Text → ℕ → ℕ
 character text position = slice_index text (position - 1)
 
 -- A character is allowed at a position: `0` to `9` at each, and `A` to `Z` at the first 18.
-abbrev pub may_stand : ℕ → ℕ → Bool
-may_stand position c = is_ascii_digit c || (nat_le position 18 && is_ascii_uppercase c)
+abbrev pub may_be_at : ℕ → ℕ → Bool
+may_be_at position c = is_ascii_digit c || (nat_le position 18 && is_ascii_uppercase c)
 
 -- Each position of the text has a character that is allowed there.
 pub record IsWellFormed (text : Text) : Type 0 where
   pub each : (position : ℕ) → 1 ≤ position → position ≤ length text
-      → IsTrue (may_stand position (character text position))
+      → IsTrue (may_be_at position (character text position))
 
 -- The text is a Legal Entity Identifier (ISO 17442-1): 20 characters, each allowed at its position, whose number leaves
 -- the remainder 1 when divided by 97.

@@ -6,15 +6,15 @@ use Rattle.std.specs.Option.{option_map, option_or}
 use Rattle.lei_code.specs.declared.fault.LeiFault.{LeiFault}
 use Rattle.lei_code.specs.declared.fault.LeiFault.TheVariants.{Length, Character, CheckDigits}
 use Rattle.lei_code.specs.Number.{number}
-use Rattle.lei_code.specs.Code.{character, may_stand, IsWellFormed}
+use Rattle.lei_code.specs.Code.{character, may_be_at, IsWellFormed}
 use Rattle.lei_code.specs.Texts.{Text}
 
 -- The first position, counted from 1, with a character that isn't allowed there.
 pub record IsFirstWrong (text : Text) (position : ℕ) : Type 0 where
   pub counted : 1 ≤ position
   pub within : position ≤ length text
-  pub wrong : ¬ (IsTrue (may_stand position (character text position)))
-  pub before : (q : ℕ) → 1 ≤ q → q < position → IsTrue (may_stand q (character text q))
+  pub wrong : ¬ (IsTrue (may_be_at position (character text position)))
+  pub before : (q : ℕ) → 1 ≤ q → q < position → IsTrue (may_be_at q (character text q))
 
 -- The fault is that of the first wrong character.
 abbrev pub IsCharacterFault : Text → LeiFault → Type 0
@@ -30,7 +30,7 @@ IsFault text CheckDigits = (length text ≡ 20) × IsWellFormed text × (number 
 
 -- The first position, counted from 1, whose character isn't allowed there.
 unfoldable pub first_wrong : Text → Option ℕ
-first_wrong text = find (λ position. not (may_stand position (character text position)))
+first_wrong text = find (λ position. not (may_be_at position (character text position)))
     (range_with_len 1 (length text))
 
 -- The fault of the first wrong character, if there is one.

@@ -12,11 +12,11 @@ use Rattle.turnstile.specs.Meaning.{Meaning, meaning}
 use Rattle.turnstile.specs.Passes.{IsTurn}
 use Rattle.lei_hall.specs.declared.answers.Told.{Told}
 use Rattle.lei_hall.specs.Passes.{HallPass, ReportsSo, SlotView, limits_of, numbers_of, told}
-use Rattle.lei_hall.specs.Turns.{Answers, Turn}
+use Rattle.lei_hall.specs.Turns.{AnswersRequest, Turn}
 
 -- The turn of a pass at the turnstile that put a request to the office is a turn of the hall.
 pub turned : {K : Type 0} (tables : K → Option KeptTables) (faults : K → ℕ) (before after : HallPass) (x y : SlotView K) (request : Request) (moment : ℤ) (reply : Reply)
-    → Answers faults x.office request moment reply y.office
+    → AnswersRequest faults x.office request moment reply y.office
     → IsTurn (meaning (λ s. s.office.office.history) (λ s. faults s.office.keeper) (λ s. numbers_of s.office.office.limits (tables s.opened.keeper)) 1 ReportsSo)
     before (Some (told request moment reply)) x y after
     → Turn before request moment reply after
@@ -47,17 +47,17 @@ turned {K} tables faults before after x y request moment reply answers turn =
 
 -- The same, if the answer has the request and the moment, and the values that were lent and returned are the turn's.
 pub turned_by : {K : Type 0} (tables : K → Option KeptTables) (faults : K → ℕ) (before after : HallPass) (x y lent back : SlotView K) (asked request : Request) (at moment : ℤ) (reply : Reply)
-    → lent ≡ x → back ≡ y → asked ≡ request → at ≡ moment → Answers faults lent.office request moment reply back.office
+    → lent ≡ x → back ≡ y → asked ≡ request → at ≡ moment → AnswersRequest faults lent.office request moment reply back.office
     → IsTurn (meaning (λ s. s.office.office.history) (λ s. faults s.office.keeper) (λ s. numbers_of s.office.office.limits (tables s.opened.keeper)) 1 ReportsSo)
     before (Some (told asked at reply)) x y after
     → Turn before request moment reply after
 turned_by {K} tables faults before after x y lent back asked request at moment reply lends leaves same_request same_moment answers turn =
     let m : Meaning (SlotView K) KeptEntry Told =
     meaning (λ s. s.office.office.history) (λ s. faults s.office.keeper) (λ s. numbers_of s.office.office.limits (tables s.opened.keeper)) 1 ReportsSo in
-    let left : Answers faults x.office request moment reply back.office =
-    subst (λ (s : SlotView K). Answers faults s.office request moment reply back.office) lends answers in
-    let both : Answers faults x.office request moment reply y.office =
-    subst (λ (s : SlotView K). Answers faults x.office request moment reply s.office) leaves left in
+    let left : AnswersRequest faults x.office request moment reply back.office =
+    subst (λ (s : SlotView K). AnswersRequest faults s.office request moment reply back.office) lends answers in
+    let both : AnswersRequest faults x.office request moment reply y.office =
+    subst (λ (s : SlotView K). AnswersRequest faults x.office request moment reply s.office) leaves left in
     let asks : IsTurn m before (Some (told request at reply)) x y after =
     subst (λ (r : Request). IsTurn m before (Some (told r at reply)) x y after) same_request turn in
     let comes : IsTurn m before (Some (told request moment reply)) x y after =

@@ -1,7 +1,7 @@
 -- Looks of a caller at the office of a hall.
 use Rattle.std.specs.Prelude.{◌≡◌, List, Result, IfOk, take}
 use Rattle.fetched_cells.specs.Fetching.{HasJust, fetched_keys}
-use Rattle.fetched_cells.specs.Maps.{cells_in}
+use Rattle.fetched_cells.specs.Maps.{fetched_view}
 use Rattle.fetched_cells.specs.declared.fetched.Fetched.{Fetched}
 use Rattle.lei_outside.specs.declared.faults.NoMemory.{NoMemory}
 use Rattle.lei_records.specs.Tables.{Table, cells_of}
@@ -14,14 +14,14 @@ use Rattle.turnstile.specs.Passes.{with_seen}
 use Rattle.lei_hall.specs.Passes.{HallPass, seen_by}
 
 -- The table of an office.
-abbrev pub table_of : OfficeState → Table
-table_of office = after office.limits office.history
+abbrev pub office_table : OfficeState → Table
+office_table office = after office.limits office.history
 
 -- This was fetched from an office for keys, if memory didn't run out: the first 50,000 of the cells that are fetched
 -- for them, and no others.
 abbrev pub Fetches : OfficeState → List CellKey → Result Fetched NoMemory → Type 0
-Fetches office keys fetched = IfOk fetched (λ f. HasJust (cells_in f) (cells_of (table_of office))
-    (take 50_000 (fetched_keys (cells_of (table_of office)) keys)))
+Fetches office keys fetched = IfOk fetched (λ f. HasJust (fetched_view f) (cells_of (office_table office))
+    (take 50_000 (fetched_keys (cells_of (office_table office)) keys)))
 
 -- A pass has seen the same history as before, or a longer one that starts with it. Nothing else of the pass has
 -- changed.

@@ -44,7 +44,7 @@ pub record Turn (before : HallPass) (request : Request) (moment : ℤ) (reply : 
 -- ---- inside
 
 -- A request was put to an office, got this reply, and led from one office to the other.
-pub record Answers {K : Type 0} (faults : K → ℕ) (old : KeptOffice K) (request : Request) (moment : ℤ)
+pub record AnswersRequest {K : Type 0} (faults : K → ℕ) (old : KeptOffice K) (request : Request) (moment : ℤ)
     (reply : Reply) (new : KeptOffice K) : Type 0 where
   pub step : Step old.office request moment reply new.office
   pub adds : AddsOneOrNone old.office new.office

@@ -2,10 +2,10 @@
 ghost use Rattle.std.specs.Prelude.{◌≡◌, IfSome};
 ghost use Rattle.register_history.specs.Legal.{Legal};
 ghost use Rattle.register_state.specs.Planning.{IsPlanOf};
-ghost use Rattle.register_words.specs.Requests.{IsNumbered, IsUploadNumber};
+ghost use Rattle.register_words.specs.Requests.{HasNumberInRange, IsUploadNumber};
 ghost use Rattle.register_words.specs.declared.request.Request.TheVariants.{Upload};
 ghost use Rattle.lei_hall.specs.Looks.{Fetches};
-ghost use Rattle.lei_hall.specs.Turns.{Answers};
+ghost use Rattle.lei_hall.specs.Turns.{AnswersRequest};
 
 use crate::slot::Slot;
 use fetched_cells::Fetched;
@@ -67,10 +67,10 @@ pub fn put_request<'a, K: Keeper, R: Threads + Sync>(
     request: &'a Request,
     moment: Moment,
 ) -> Answer<'a>
-    requires { IsNumbered request.now }
+    requires { HasNumberInRange request.now }
     ensures asked { (result.request.now ≡ request.now) × (result.moment ≡ moment) }
     ensures opened { slot.new.opened ≡ slot.old.opened }
-    ensures answers { Answers K.faults slot.old.office request.now moment result.reply slot.new.office }
+    ensures answers { AnswersRequest K.faults slot.old.office request.now moment result.reply slot.new.office }
 {
     let reply = slot.office.answer(rt, request, moment);
     Answer {
@@ -116,7 +116,8 @@ pub fn settle_call<'a, K: Keeper, R: Threads + Sync>(
     requires plan { IfSome plan (IsPlanOf call.now) }
     ensures asked { (result.call.now ≡ call.now) × (result.moment ≡ moment) }
     ensures opened { slot.new.opened ≡ slot.old.opened }
-    ensures answers { Answers K.faults slot.old.office (Upload call.now) moment result.reply slot.new.office }
+    ensures answers { AnswersRequest K.faults slot.old.office
+        (Upload call.now) moment result.reply slot.new.office }
 {
     let reply = slot.office.settle(rt, call, plan, moment);
     Settled {

@@ -1,6 +1,6 @@
 //! One caller of a hall, as the one who answers in a session.
 ghost use Rattle.std.specs.Prelude.{◌≡◌};
-ghost use Rattle.register_words.specs.Requests.{IsNumbered};
+ghost use Rattle.register_words.specs.Requests.{HasNumberInRange};
 ghost use Rattle.lei_hall.specs.Turns.{Turn};
 
 use crate::hall::{Hall, Pass};
@@ -58,7 +58,7 @@ impl<'h, K: Keeper, G: Gate> Caller<'h, K, G> {
 
     // Puts a request to the office, in one turn.
     fn put<R: Threads + Wait + Sync>(&mut self, rt: &R, request: &Request, moment: Moment) -> Reply
-        requires { IsNumbered request.now }
+        requires { HasNumberInRange request.now }
         ensures { Turn self.old request.now moment result self.new }
     {
         let Some(pass) = self.pass.take() else {

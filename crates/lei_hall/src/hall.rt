@@ -3,7 +3,7 @@ ghost use Rattle.std.specs.Prelude.{◌≡◌, ◌≤◌, length, IfOk, IfErr, I
 ghost use Rattle.std.specs.Thread.{IsSync};
 ghost use Rattle.register_history.specs.Kept.{Keeps, StaysUntold};
 ghost use Rattle.register_history.specs.Legal.{Legal};
-ghost use Rattle.register_words.specs.Requests.{IsNumbered, IsUploadNumber};
+ghost use Rattle.register_words.specs.Requests.{HasNumberInRange, IsUploadNumber};
 ghost use Rattle.register_words.specs.declared.request.Request.TheVariants.{Upload};
 ghost use Rattle.turnstile.specs.Lists.{longer};
 ghost use Rattle.turnstile.specs.Passes.{AreFronts, AreNew, AreOf, HaveAll, with_seen};
@@ -11,7 +11,7 @@ ghost use Rattle.register_state.specs.Planning.{IsPlanOf};
 ghost use Rattle.lei_hall.specs.Closing.{Closes};
 ghost use Rattle.lei_hall.specs.Looks.{Fetches, Looks, SeesMore};
 ghost use Rattle.lei_hall.specs.Passes.{numbers_of, seen_by};
-ghost use Rattle.lei_hall.specs.Turns.{Answers, Turn};
+ghost use Rattle.lei_hall.specs.Turns.{AnswersRequest, Turn};
 
 use crate::answers::{Answer, Looked, Settled, Told, fetch_cells, put_request, settle_call};
 use crate::slot::{Slot, office_in};
@@ -90,17 +90,17 @@ impl<K: Keeper> Hall<K> {
         moment: Moment,
     ) -> (Pass, Reply)
         requires pass { pass.table ≡ self.now.table }
-        requires numbered { IsNumbered request.now }
+        requires numbered { HasNumberInRange request.now }
         ensures { Turn pass request.now moment result.1 result.0 }
     {
         let (pass, answer) = self.turnstile.enter(
             rt,
             pass,
             |slot: &mut Slot<K>| -> Answer<'_>
-                requires { IsSync R.row × IsNumbered request.now }
+                requires { IsSync R.row × HasNumberInRange request.now }
                 ensures asked { (result.request.now ≡ request.entry.now) × (result.moment ≡ moment) }
                 ensures opened { slot.new.opened ≡ slot.old.opened }
-                ensures answers { Answers K.faults
+                ensures answers { AnswersRequest K.faults
                     slot.old.office request.entry.now moment result.reply slot.new.office }
             { put_request(rt, slot, request, moment) },
         );
@@ -181,7 +181,7 @@ impl<K: Keeper> Hall<K> {
                 requires { IsSync R.row × IsUploadNumber call.now.number × IfSome plan (IsPlanOf call.now) }
                 ensures asked { (result.call.now ≡ call.entry.now) × (result.moment ≡ moment) }
                 ensures opened { slot.new.opened ≡ slot.old.opened }
-                ensures answers { Answers K.faults
+                ensures answers { AnswersRequest K.faults
                     slot.old.office (Upload call.entry.now) moment result.reply slot.new.office }
             { settle_call(rt, slot, call, plan, moment) },
         );
@@ -198,7 +198,7 @@ impl<K: Keeper> Hall<K> {
         gate: &G,
     ) -> (Pass, Reply)
         requires pass { pass.table ≡ self.now.table }
-        requires numbered { IsNumbered request.now }
+        requires numbered { HasNumberInRange request.now }
         ensures { Turn pass request.now moment result.1 result.0 }
     {
         match request {

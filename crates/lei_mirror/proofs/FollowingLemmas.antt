@@ -12,7 +12,7 @@ use Rattle.copy_csv.specs.declared.rows.Change.{Change}
 use Rattle.copy_csv.specs.Sheets.{SheetRow}
 use Rattle.copy_forms.specs.Files.{IsCopy, IsDelta}
 use Rattle.copy_forms.specs.Patching.{patched, patched_head}
-use Rattle.copy_forms.specs.Trails.{IsSound, Publication, Trail, changes_between, copy_head, delta_head, is_wide_in, publication_at}
+use Rattle.copy_forms.specs.Trails.{IsSoundTrail, Publication, Trail, changes_between, copy_head, delta_head, is_wide_in, publication_at}
 use Rattle.copy_forms.proofs.BetweenLemmas.{copy_stands, delta_stands, rows_lead}
 use Rattle.copy_forms.proofs.CopyLemmas.{copy-same, delta-same}
 use Rattle.lei_mirror.specs.declared.packet.PacketBody.{PacketBody}
@@ -26,7 +26,7 @@ use Rattle.lei_mirror.specs.Packets.{IsBody, IsPacket, is_kind, body_kind}
 use Rattle.lei_mirror.proofs.PacketLemmas.{IsPacketFor, packet_for_is}
 use Rattle.lei_mirror.proofs.TakingLemmas.{left_good}
 
-module _ (trail : Trail) (on : IsSound trail) (few : length trail ≤ 1_000_000) where
+module _ (trail : Trail) (on : IsSoundTrail trail) (few : length trail ≤ 1_000_000) where
   -- ---- what is read from a packet of the trail
 
   copy_kept : (sheet : Sheet) (bytes : Text) → length bytes < 2 ^ 64 → IsCopyOfTrail trail sheet bytes → (head : Head) (rows : List SheetRow)

@@ -8,7 +8,7 @@ use Rattle.std.proofs.lemmas.List.{length_push}
 use Rattle.std.proofs.lemmas.List.Sums.{sum_by-cons, sum_by_push}
 use Rattle.std.proofs.lemmas.List.Elements.{All-cons, All-head, All-nil, All-push, All-tail}
 use Rattle.register_words.specs.declared.sheets.Sheet.{Sheet}
-use Rattle.copy_csv.specs.Rows.{IsRowOf}
+use Rattle.copy_csv.specs.Rows.{IsRowOfSheet}
 use Rattle.copy_csv.proofs.RowLemmas.{rising-nil}
 use Rattle.lei_mirror.specs.declared.packet.Packet.{Packet}
 use Rattle.lei_mirror.specs.declared.tables.Tables.{Tables}
@@ -179,6 +179,6 @@ empty_is tables kept tables_are kept_are =
     }))
   where
     held : (sheet : Sheet) → IsCopyOf 0 sheet (sheet_copy empty_mirror.tables sheet)
-    held Sheet.Lei = record { head_is = refl; rows_are = record { each = All-nil (IsRowOf Sheet.Lei); rising = rising-nil } }
-    held Sheet.Rr = record { head_is = refl; rows_are = record { each = All-nil (IsRowOf Sheet.Rr); rising = rising-nil } }
-    held Sheet.Repex = record { head_is = refl; rows_are = record { each = All-nil (IsRowOf Sheet.Repex); rising = rising-nil } }
+    held Sheet.Lei = record { head_is = refl; rows_are = record { each = All-nil (IsRowOfSheet Sheet.Lei); rising = rising-nil } }
+    held Sheet.Rr = record { head_is = refl; rows_are = record { each = All-nil (IsRowOfSheet Sheet.Rr); rising = rising-nil } }
+    held Sheet.Repex = record { head_is = refl; rows_are = record { each = All-nil (IsRowOfSheet Sheet.Repex); rising = rising-nil } }

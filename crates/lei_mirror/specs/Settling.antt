@@ -8,8 +8,8 @@ use Rattle.lei_mirror.specs.Mirrors.{IsGreatestReady, IsReadyToShow, MirrorState
 use Rattle.lei_mirror.specs.States.{IsSoundPacket}
 
 -- The packet of a reference, if there is one.
-abbrev pub lent : Option (Bor Packet) → Option Packet
-lent packet = option_map (λ packet. packet.now) packet
+abbrev pub packet_now : Option (Bor Packet) → Option Packet
+packet_now packet = option_map (λ packet. packet.now) packet
 
 -- If there is a packet that brings a sheet to a publication, it is a sound one of this sheet.
 abbrev pub IsSoundFor : Sheet → Option Packet → Type 0

@@ -1,6 +1,6 @@
 //! The mirror, which takes packets and shows copies.
 ghost use Rattle.std.specs.Prelude.{◌≡◌, ◌≤◌, false, true, length, IfOk, IsErrOf, OnErr, OnOk};
-ghost use Rattle.copy_forms.specs.Trails.{IsSound, Trail};
+ghost use Rattle.copy_forms.specs.Trails.{IsSoundTrail, Trail};
 ghost use Rattle.lei_mirror.specs.declared.faults.MirrorFault.{MirrorFault as Taking};
 ghost use Rattle.lei_mirror.specs.declared.faults.ShowFault.{ShowFault as Showing};
 ghost use Rattle.lei_mirror.specs.Following.{FollowsTrail, IsCopyAt, IsOfTrail};
@@ -81,7 +81,7 @@ impl Mirror {
         ensures full { IsErrOf result Taking.Full → HasNoRoom self.old kind sheet bytes.now }
         ensures err { OnErr result (self.new ≡ self.old) }
         ensures rises { self.old.tables.publication ≤ self.new.tables.publication }
-        ensures follows { (trail : Trail) → IsSound trail → length trail ≤ 1_000_000
+        ensures follows { (trail : Trail) → IsSoundTrail trail → length trail ≤ 1_000_000
             → IsOfTrail trail kind sheet bytes.now → FollowsTrail trail self.old
             → FollowsTrail trail self.new }
     {

@@ -3,7 +3,7 @@ ghost use Rattle.std.specs.Prelude.{◌≡◌, ◌↔◌, IsTrue};
 ghost use Rattle.std.specs.List.{find};
 ghost use Rattle.lei_mirror.specs.Mirrors as spec;
 ghost use Rattle.lei_mirror.specs.Packets as packets;
-ghost use Rattle.lei_mirror.specs.Settling.{FindsGreatest, lent};
+ghost use Rattle.lei_mirror.specs.Settling.{FindsGreatest, packet_now};
 
 use crate::kept_packet::KeptPacket;
 use copy_csv::Sheet;
@@ -11,7 +11,7 @@ use copy_csv::Sheet;
 /// The packet that brings a sheet to a publication: its copy, or else the first delta to it from a publication that
 /// isn't after the one that is shown.
 pub fn packet_for(shown: u32, kept: &[KeptPacket], number: u32, sheet: Sheet) -> Option<&KeptPacket>
-    ensures { lent result ≡ spec.packet_for shown kept.now number sheet }
+    ensures { packet_now result ≡ spec.packet_for shown kept.now number sheet }
 {
     if let Some(copy) = copy_among(kept, sheet, number) {
         return Some(copy);
@@ -20,7 +20,7 @@ pub fn packet_for(shown: u32, kept: &[KeptPacket], number: u32, sheet: Sheet) ->
 }
 
 fn copy_among(kept: &[KeptPacket], sheet: Sheet, number: u32) -> Option<&KeptPacket>
-    ensures { lent result ≡ find (packets.is_copy_of sheet number) kept.now }
+    ensures { packet_now result ≡ find (packets.is_copy_of sheet number) kept.now }
 {
     for packet in kept {
         if packet.is_copy_of(sheet, number) {
@@ -31,7 +31,7 @@ fn copy_among(kept: &[KeptPacket], sheet: Sheet, number: u32) -> Option<&KeptPac
 }
 
 fn delta_among(kept: &[KeptPacket], sheet: Sheet, number: u32, shown: u32) -> Option<&KeptPacket>
-    ensures { lent result ≡ find (packets.is_delta_to sheet number shown) kept.now }
+    ensures { packet_now result ≡ find (packets.is_delta_to sheet number shown) kept.now }
 {
     for packet in kept {
         if packet.is_delta_to(sheet, number, shown) {

@@ -3,7 +3,7 @@ ghost use Rattle.std.specs.Prelude.{◌≡◌, ◌≤◌, IfOk};
 ghost use Rattle.std.specs.List.{All};
 ghost use Rattle.copy_csv.specs.Rows.{AreRows};
 ghost use Rattle.lei_mirror.specs.Mirrors as spec;
-ghost use Rattle.lei_mirror.specs.Settling.{IsSoundFor, SettlesTo, lent};
+ghost use Rattle.lei_mirror.specs.Settling.{IsSoundFor, SettlesTo, packet_now};
 ghost use Rattle.lei_mirror.specs.States.{AreTables, IsSoundBody, IsSoundPacket};
 
 use crate::kept_packet::KeptPacket;
@@ -63,8 +63,8 @@ fn copy_after(
     packet: Option<&KeptPacket>,
 ) -> Result<SheetCopy, NoMemory>
     requires rows { AreRows sheet old.now.rows }
-    requires packet { IsSoundFor sheet (lent packet) }
-    ensures { IfOk result (λ made. made ≡ spec.copy_after old.now (lent packet.entry)) }
+    requires packet { IsSoundFor sheet (packet_now packet) }
+    ensures { IfOk result (λ made. made ≡ spec.copy_after old.now (packet_now packet.entry)) }
 {
     let Some(packet) = packet else {
         return old.share();

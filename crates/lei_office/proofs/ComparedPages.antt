@@ -2,14 +2,14 @@
 use Rattle.std.proofs.Common.{◌≡◌, ℕ, ◌≤◌, ◌+◌, ◌*◌, Bool, true, false, nat_lt, List, Option, Some, None, refl, sym, subst, ◌∙◌, arith}
 use Rattle.std.proofs.lemmas.Bool.{ltb-false, ltb-true}
 use Rattle.std.specs.Prelude.{IfSome}
-use Rattle.lei_outside.specs.Keeping.{AreKept, KeptTables, LeavesNoMore, Stays, cells_between}
+use Rattle.lei_outside.specs.Keeping.{AreKept, KeptTables, LeavesNoMore, TablesStay, cells_between}
 use Rattle.lei_outside.specs.declared.keeper.KeptCell.{KeptCell}
 use Rattle.register_table.specs.Held.{Held}
 use Rattle.register_history.specs.declared.damage.Damage.{Damage}
 use Rattle.register_history.specs.Damage.{IsCellDamage, kept_page, made_page, page_bounds}
 use Rattle.register_history.specs.Kept.{AreCellsOf}
 use Rattle.lei_office.specs.Opening.{Compares}
-use Rattle.register_history.specs.Standing.{AllStand}
+use Rattle.register_history.specs.Standing.{AreRowCells}
 use Rattle.register_history.proofs.Pages.{PagesAgree, pages-cells}
 
 compares_so : (kept kept' made made' : List KeptCell) (found : Option Damage) → kept ≡ kept' → made ≡ made' → Compares kept made found → Compares kept' made' found
@@ -23,7 +23,7 @@ page-compares (Some tables) held bounds kept made found of_kept of_made is = com
 
 -- ---- one more call of a keeper
 
-pub stays-join : (a b c : Option KeptTables) → Stays a b → Stays b c → Stays a c
+pub stays-join : (a b c : Option KeptTables) → TablesStay a b → TablesStay b c → TablesStay a c
 stays-join None None None first second = tt
 stays-join None None (Some c) first second = absurd second
 stays-join None (Some b) c first second = absurd first
@@ -32,14 +32,14 @@ stays-join (Some a) None (Some c) first second = absurd second
 stays-join (Some a) (Some b) None first second = tt
 stays-join (Some a) (Some b) (Some c) first second = second ∙ first
 
-pub stays-itself : (a : Option KeptTables) → Stays a a
+pub stays-itself : (a : Option KeptTables) → TablesStay a a
 stays-itself None = tt
 stays-itself (Some a) = refl
 
 pub leaves-join : (a b c : Option KeptTables → Type 0) → LeavesNoMore a b → LeavesNoMore b c → LeavesNoMore a c
 leaves-join a b c first second left is = first left (second left is)
 
-pub stays-told : (P : KeptTables → Type 0) (old new : Option KeptTables) → Stays old new → IfSome old P → IfSome new P
+pub stays-told : (P : KeptTables → Type 0) (old new : Option KeptTables) → TablesStay old new → IfSome old P → IfSome new P
 stays-told P None None stays is = tt
 stays-told P None (Some new) stays is = absurd stays
 stays-told P (Some old) None stays is = tt
@@ -63,20 +63,20 @@ more-agree last n held tables agree is k below = by_order (nat_lt k n) refl
         let same : k ≡ n = omega (arith, from, below) in
         subst (λ m. kept_page tables (page_bounds last m) ≡ made_page held (page_bounds last m)) (sym same) is
 
-pub page-agrees : (last n : ℕ) (held : Held) (old new : Option KeptTables) → Stays old new → IfSome old (λ t. PagesAgree last held t n)
+pub page-agrees : (last n : ℕ) (held : Held) (old new : Option KeptTables) → TablesStay old new → IfSome old (λ t. PagesAgree last held t n)
     → IfSome new (λ t. Compares (kept_page t (page_bounds last n)) (made_page held (page_bounds last n)) None) → IfSome new (λ t. PagesAgree last held t (n + 1))
 page-agrees last n held old new stays agree is =
     both-told (λ t. PagesAgree last held t n) (λ t. Compares (kept_page t (page_bounds last n)) (made_page held (page_bounds last n)) None) (λ t. PagesAgree last held t (n + 1)) new
     (λ t earlier same. more-agree last n held t earlier same) (stays-told (λ t. PagesAgree last held t n) old new stays agree) is
 
-pub page-differs : (last n : ℕ) (held : Held) (old new : Option KeptTables) (damage : Damage) → Stays old new → IfSome old (λ t. PagesAgree last held t n)
+pub page-differs : (last n : ℕ) (held : Held) (old new : Option KeptTables) (damage : Damage) → TablesStay old new → IfSome old (λ t. PagesAgree last held t n)
     → IfSome new (λ t. Compares (kept_page t (page_bounds last n)) (made_page held (page_bounds last n)) (Some damage)) → IfSome new (λ t. IsCellDamage last held t damage)
 page-differs last n held old new damage stays agree is =
     both-told (λ t. PagesAgree last held t n) (λ t. Compares (kept_page t (page_bounds last n)) (made_page held (page_bounds last n)) (Some damage)) (λ t. IsCellDamage last held t damage) new
     (λ t earlier differs. record { page = n; earlier = earlier; differs = differs }) (stays-told (λ t. PagesAgree last held t n) old new stays agree) is
 
 -- all pages are the same
-pub all-agree : (last n : ℕ) (held : Held) (told : Option KeptTables) → last ≤ 10000000 → last ≤ 16 * n → AllStand last held → IfSome told AreKept → IfSome told (λ t. PagesAgree last held t (n + 1))
+pub all-agree : (last n : ℕ) (held : Held) (told : Option KeptTables) → last ≤ 10000000 → last ≤ 16 * n → AreRowCells last held → IfSome told AreKept → IfSome told (λ t. PagesAgree last held t (n + 1))
     → IfSome told (λ t. AreCellsOf held t.cells)
 all-agree last n held told few all stand kept agree =
     both-told AreKept (λ t. PagesAgree last held t (n + 1)) (λ t. AreCellsOf held t.cells) told

@@ -3,7 +3,7 @@ use Rattle.std.proofs.Common.{◌≡◌, ℕ, ◌<◌, ◌≤◌, ◌+◌, ◌-�
 use Rattle.std.specs.Prelude.{◌≢◌}
 use Rattle.std.proofs.lemmas.Bool.{leb-false, leb-true, ltb-true}
 use Rattle.std.proofs.lemmas.Bool.Decides.{nat_tests}
-use Rattle.lei_outside.specs.Keeping.{AreKept, KeptTables, RiseFrom, entries_between, last_number, number_of}
+use Rattle.lei_outside.specs.Keeping.{AreKept, KeptTables, RiseFrom, entries_between, entry_number, last_number}
 use Rattle.lei_outside.specs.declared.entry.KeptEntry.{KeptEntry}
 use Rattle.upload_ledger.specs.History.{History, last_entry}
 use Rattle.register_history.specs.declared.damage.Damage.{Damage}
@@ -12,7 +12,7 @@ use Rattle.register_history.specs.Damage.{EntryDiffers, IsEntryDamage, missing}
 use Rattle.register_history.specs.Legal.{Legal, LegalAfter}
 use Rattle.lei_office.specs.Opening.{IsPageDamage, NextDiffers}
 use Rattle.register_history.specs.State.{OfficeState, office_of}
-use Rattle.register_state.specs.Books.{with_entry}
+use Rattle.register_state.specs.Books.{office_with_entry}
 use Rattle.register_history.proofs.AskedFor.{next-seq}
 use Rattle.register_history.proofs.Histories.{last_entry-push}
 
@@ -67,17 +67,17 @@ last_from : ℕ → History → ℕ
 last_from number [] = number
 last_from number (e ∷ list) = last_from e.seq list
 
-last-is : (e : KeptEntry) (list : History) → number_of (slice_get (e ∷ list) (length list)) ≡ last_from e.seq list
+last-is : (e : KeptEntry) (list : History) → entry_number (slice_get (e ∷ list) (length list)) ≡ last_from e.seq list
 unfolding last_from
 last-is e [] = refl
 last-is e (next ∷ list) = last-is next list
 
-last-of : (list : History) → number_of (slice_get list (length list - 1)) ≡ last_from 0 list
+last-of : (list : History) → entry_number (slice_get list (length list - 1)) ≡ last_from 0 list
 unfolding last_from
 last-of [] = refl
 last-of (e ∷ list) =
     let before : length (e ∷ list) - 1 ≡ length list = omega arith in
-    ap (λ n. number_of (slice_get (e ∷ list) n)) before ∙ last-is e list
+    ap (λ n. entry_number (slice_get (e ∷ list) n)) before ∙ last-is e list
 
 rises : (m : ℕ) (es : History) → RiseFrom m es → m ≤ last_from m es
 unfolding last_from
@@ -123,14 +123,14 @@ head-passes upto last (f ∷ es) rest e is =
 
 -- ---- the last number of a legal history
 
-last-legal : (limits : Limits) (before rest : History) → LegalAfter limits before rest → number_of (last_entry before) ≡ length before → number_of (last_entry (before ++ rest)) ≡ length (before ++ rest)
-last-legal limits before [] legal last = subst (λ h. number_of (last_entry h) ≡ length h) (sym (append-nil before)) last
+last-legal : (limits : Limits) (before rest : History) → LegalAfter limits before rest → entry_number (last_entry before) ≡ length before → entry_number (last_entry (before ++ rest)) ≡ length (before ++ rest)
+last-legal limits before [] legal last = subst (λ h. entry_number (last_entry h) ≡ length h) (sym (append-nil before)) last
 last-legal limits before (e ∷ rest) legal last =
     let number = next-seq limits before e legal.0 in
-    let now : number_of (last_entry (before ++ e ∷ [])) ≡ length (before ++ e ∷ []) = ap number_of (last_entry-push before e) ∙ omega (arith, number, length-append before (e ∷ [])) in
-    subst (λ h. number_of (last_entry h) ≡ length h) (append_assoc before (e ∷ []) rest) (last-legal limits (before ++ e ∷ []) rest legal.1 now)
+    let now : entry_number (last_entry (before ++ e ∷ [])) ≡ length (before ++ e ∷ []) = ap entry_number (last_entry-push before e) ∙ omega (arith, number, length-append before (e ∷ [])) in
+    subst (λ h. entry_number (last_entry h) ≡ length h) (append_assoc before (e ∷ []) rest) (last-legal limits (before ++ e ∷ []) rest legal.1 now)
 
-pub legal-last : (limits : Limits) (history : History) → Legal (office_of limits history) → number_of (last_entry history) ≡ length history
+pub legal-last : (limits : Limits) (history : History) → Legal (office_of limits history) → entry_number (last_entry history) ≡ length history
 unfolding Legal
 legal-last limits history legal = last-legal limits [] history legal refl
 
@@ -151,7 +151,7 @@ page-damage limits after upto last before tables damage kept is_last up most is_
     by_beyond : (beyond : History) → entries_between upto (last_number tables) tables ≡ beyond → tables.entries ≡ (before ++ is.front) ++ beyond → length (before ++ is.front) + 1 ≤ upto
         → damage ≡ missing (length (before ++ is.front) + 1) → IsEntryDamage limits tables.entries damage
     by_beyond [] none are below missed =
-        let ended = ap (λ l. number_of (last_entry l)) (are ∙ append-nil (before ++ is.front)) ∙ legal-last limits (before ++ is.front) is.legal in
+        let ended = ap (λ l. entry_number (last_entry l)) (are ∙ append-nil (before ++ is.front)) ∙ legal-last limits (before ++ is.front) is.legal in
         absurd (omega (arith, ended, below, most, is_last))
     by_beyond (e ∷ beyond) some are below missed =
         let above = head-passes upto (last_number tables) tables.entries beyond e some in
@@ -198,9 +198,9 @@ page-lacks before page now upto damage grown legal few missed = record {
 
 -- one more entry was replayed
 pub page-grows : (before : OfficeState) (page : History) (now later : OfficeState) (i : ℕ) (stored : KeptEntry) → i < length page → get_or page i stored ≡ stored
-    → now ≡ office_of before.limits (before.history ++ take i page) → later ≡ with_entry now stored → later ≡ office_of before.limits (before.history ++ take (i + 1) page)
+    → now ≡ office_of before.limits (before.history ++ take i page) → later ≡ office_with_entry now stored → later ≡ office_of before.limits (before.history ++ take (i + 1) page)
 page-grows before page now later i stored within at grown added =
     let history = before.history in
     let more : (history ++ take i page) ++ stored ∷ [] ≡ history ++ take (i + 1) page =
     append_assoc history (take i page) (stored ∷ []) ∙ ap (λ l. history ++ l) (sym (take-more page i stored within at) ∙ ap (λ n. take n page) (sym (add-one i))) in
-    added ∙ (ap (λ o. with_entry o stored) grown ∙ ap (office_of before.limits) more)
+    added ∙ (ap (λ o. office_with_entry o stored) grown ∙ ap (office_of before.limits) more)

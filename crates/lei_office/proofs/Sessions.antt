@@ -105,7 +105,7 @@ office_counts old new asks moments replies session =
 
 -- a session of an office's steps is a session of its history
 pub office_session : (old new : CountedOffice) (asks : List Asked) (moments : List ℤ) (replies : List Reply)
-    → Session OfficeStep old asks moments replies new → legal.Session old.office asks moments replies new.office
+    → Session OfficeStep old asks moments replies new → legal.OfficeSession old.office asks moments replies new.office
 office_session old new [] moments [] session = (session.0, ap (λ (o : CountedOffice). o.office) session.1)
 office_session old new [] moments (reply ∷ replies) session = absurd session
 office_session old new (ask ∷ asks) moments [] session = absurd session

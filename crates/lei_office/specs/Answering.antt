@@ -5,7 +5,7 @@ use Rattle.register_history.specs.Kept.{StaysUntold}
 use Rattle.register_history.specs.Legal.{AskStep}
 use Rattle.register_history.specs.State.{OfficeState}
 use Rattle.register_words.specs.Refusals.{refusal_status_code}
-use Rattle.register_words.specs.Requests.{IsNumbered}
+use Rattle.register_words.specs.Requests.{HasNumberInRange}
 use Rattle.register_words.specs.declared.reply.Reply.{Reply}
 use Rattle.register_words.specs.declared.request.Asked.{Asked}
 use Rattle.register_words.specs.declared.request.Asked.TheVariants.{Ask, Refuse}
@@ -20,14 +20,14 @@ pub record CountedOffice : Type 0 where
   pub faults : ℕ
 
 -- An office with its keeper, reduced to the keeper's tables and count.
-abbrev pub counted : {K : Type 0} → (K → Option KeptTables) → (K → ℕ) → KeptOffice K → CountedOffice
-counted tables faults kept =
+abbrev pub with_count : {K : Type 0} → (K → Option KeptTables) → (K → ℕ) → KeptOffice K → CountedOffice
+with_count tables faults kept =
     record { office = kept.office; kept = tables kept.keeper; faults = faults kept.keeper }
 
 -- What may be asked: a request whose number is in its range, or a refusal by the reader that reports no fault of the
 -- keeper.
 abbrev pub MayBeAsked : Asked → Type 0
-MayBeAsked (Ask request) = IsNumbered request
+MayBeAsked (Ask request) = HasNumberInRange request
 MayBeAsked (Refuse refusal) = refusal_status_code refusal ≢ 503
 
 -- What was asked got this reply, at these moments, by one step from one office to the next. The reply is KEEPER_FAULT

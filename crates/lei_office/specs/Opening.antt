@@ -8,12 +8,12 @@ use Rattle.upload_ledger.specs.History.{History}
 use Rattle.register_words.specs.Refusals.{reply_words}
 use Rattle.register_words.specs.declared.limits.Limits.{Limits}
 use Rattle.register_history.specs.declared.damage.Damage.{Damage}
-use Rattle.register_history.specs.Damage.{DifferFirst, EntryDiffers, IsCellDamage, IsDamage, IsEntryDamage, entry_line, missing, replayed}
+use Rattle.register_history.specs.Damage.{DifferFirst, EntryDiffers, IsCellDamage, IsDamage, IsEntryDamage, entry_line, missing, replayed_text}
 use Rattle.register_history.specs.Kept.{AreCellsOf, Keeps}
 use Rattle.register_history.specs.Legal.{IsNext, Legal}
 use Rattle.register_history.specs.Register.{held_after}
 use Rattle.register_history.specs.State.{OfficeState, office_of}
-use Rattle.register_state.specs.Books.{with_entry}
+use Rattle.register_state.specs.Books.{office_with_entry}
 use Rattle.register_state.specs.declared.decision.Decision.{Decision}
 use Rattle.register_state.specs.declared.decision.Decision.TheVariants.{Adds, Stays}
 use Rattle.lei_office.specs.declared.opening.Found.{Found}
@@ -27,8 +27,8 @@ decision_text (Adds e list) = entry_line e
 -- A stored entry was replayed. If the replay makes the same entry, it now follows the others. Otherwise this is the
 -- text of what the replay makes instead.
 abbrev pub Replays : OfficeState → KeptEntry → OfficeState → Option Text → Type 0
-Replays before e after None = IsNext before e × (after ≡ with_entry before e)
-Replays before e after (Some text) = (IsNext before e → ⊥) × (text ≡ replayed before e)
+Replays before e after None = IsNext before e × (after ≡ office_with_entry before e)
+Replays before e after (Some text) = (IsNext before e → ⊥) × (text ≡ replayed_text before e)
 
 -- The difference at the next number. The page has no more entries, although it should reach the number `upto`, or its
 -- next entry differs.
@@ -66,14 +66,14 @@ Compares kept made (Some damage) = DifferFirst kept made damage
 
 -- A store was read. Its entries are a legal history under these limits, and any tables that the keeper tells are those
 -- of this history. Or this is damage of the tables that the keeper tells.
-abbrev pub IsRead : Limits → Option KeptTables → OfficeState → Option Damage → Type 0
-IsRead limits told office None = (office.limits ≡ limits) × Legal office × Keeps told office
-IsRead limits told office (Some damage) = IfSome told (λ tables. IsDamage limits tables damage)
+abbrev pub IsStoreRead : Limits → Option KeptTables → OfficeState → Option Damage → Type 0
+IsStoreRead limits told office None = (office.limits ≡ limits) × Legal office × Keeps told office
+IsStoreRead limits told office (Some damage) = IfSome told (λ tables. IsDamage limits tables damage)
 
 -- What a store was found to have: the register of its entries, or damage.
-abbrev pub IsFound : Limits → Option KeptTables → Found → Type 0
-IsFound limits told (Sound register) = IsRead limits told register None
-IsFound limits told (Damaged damage) = IfSome told (λ tables. IsDamage limits tables damage)
+abbrev pub IsFoundInStore : Limits → Option KeptTables → Found → Type 0
+IsFoundInStore limits told (Sound register) = IsStoreRead limits told register None
+IsFoundInStore limits told (Damaged damage) = IfSome told (λ tables. IsDamage limits tables damage)
 
 -- All pages of cells are the same, so that any cells that the keeper tells are those of the register. Or the first
 -- difference was found.

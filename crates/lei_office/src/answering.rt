@@ -11,7 +11,7 @@ use std::thread::Threads;
 
 impl<R: Threads + Sync, K: Keeper> Answers<R> for Office<K> {
     ghost use denote.Param.Send.{IsSync};
-    ghost use Rattle.lei_office.specs.Answering.{MayBeAsked, StepsBy, counted};
+    ghost use Rattle.lei_office.specs.Answering.{MayBeAsked, StepsBy, with_count};
 
     type Asked = Asked;
 
@@ -20,7 +20,7 @@ impl<R: Threads + Sync, K: Keeper> Answers<R> for Office<K> {
     // inside an `impl` it isn't known that `R` is `Sync`, so the caller has to say it
     ghost takes = { λ asked. MayBeAsked asked × IsSync R.row };
 
-    ghost step = { StepsBy (counted K.tables K.faults) };
+    ghost step = { StepsBy (with_count K.tables K.faults) };
 
     fn answer<C: Clock>(&mut self, rt: &R, asked: &Asked, clock: &mut C) -> Reply {
         match asked {

@@ -1,7 +1,7 @@
 //! Compares the cells that a keeper has with those of a register, in pages by the entries that touched them last.
 ghost use Rattle.std.specs.Prelude.{◌≡◌, ◌≤◌, IfOk, IfSome, IsErrOf, IsTrue, Some, option_map, slice_get};
 ghost use Rattle.lei_outside.specs.Count.{Rose};
-ghost use Rattle.lei_outside.specs.Keeping.{AreKept, LeavesNoMore, Stays};
+ghost use Rattle.lei_outside.specs.Keeping.{AreKept, LeavesNoMore, TablesStay};
 ghost use Rattle.register_history.specs.Damage.{cell_or_none, kept_page, made_page, not_kept, not_made, page_bounds};
 ghost use Rattle.lei_office.specs.Opening.{AllCompare, Compares};
 ghost use Rattle.register_history.specs.Register.{held_after};
@@ -23,7 +23,7 @@ pub fn compare_cells<K: Keeper>(
 ) -> Result<Option<Damage>, KeepFault>
     requires { IfSome (K.tables keeper.old) AreKept }
     ensures compares { IfOk result (AllCompare register.now (K.tables keeper.new)) }
-    ensures same { Stays (K.tables keeper.old) (K.tables keeper.new) }
+    ensures same { TablesStay (K.tables keeper.old) (K.tables keeper.new) }
     ensures crash { LeavesNoMore (K.leaves keeper.old) (K.leaves keeper.new) }
     ensures count { K.faults keeper.old ≤ K.faults keeper.new }
     ensures faultless { ¬ (IsErrOf result KeepFault.Failed) → K.faults keeper.new ≡ K.faults keeper.old }
@@ -64,7 +64,7 @@ fn compare_page<K: Keeper>(
     ensures compares { IfOk result (λ found. IfSome (K.tables keeper.new)
         (λ told. Compares (kept_page told bounds)
         (made_page (held_after register.now.limits register.now.history) bounds) found)) }
-    ensures same { Stays (K.tables keeper.old) (K.tables keeper.new) }
+    ensures same { TablesStay (K.tables keeper.old) (K.tables keeper.new) }
     ensures crash { LeavesNoMore (K.leaves keeper.old) (K.leaves keeper.new) }
     ensures count { K.faults keeper.old ≤ K.faults keeper.new }
     ensures faultless { ¬ (IsErrOf result KeepFault.Failed) → K.faults keeper.new ≡ K.faults keeper.old }

@@ -1,7 +1,7 @@
 //! Lines that report the first difference between what a keeper has and what its entries leave.
 ghost use Rattle.std.specs.Prelude.{◌≡◌, ◌++◌, ◌∷◌, IfOk, OnOk, flat_map, map};
 ghost use Rattle.register_history.specs.Damage.{cell_line, entry_line, kind_word, moment_word, or_dash, row_word};
-ghost use Rattle.register_history.specs.Kept.{joined};
+ghost use Rattle.register_history.specs.Kept.{with_spaces};
 
 use lei_outside::{Bytes, KeptCell, KeptEntry, NoMemory, Shared};
 use lei_shapes::Moment;
@@ -25,7 +25,7 @@ pub fn entry_line(alloc: Global, entry: &KeptEntry) -> Result<Bytes, NoMemory>
         rules.format(entry.rules).as_bytes(),
         entry.answer.as_slice(),
     ];
-    joined(alloc, &words)
+    join_words(alloc, &words)
 }
 
 // A cell in one line.
@@ -40,7 +40,7 @@ pub fn cell_line(alloc: Global, cell: &KeptCell) -> Result<Bytes, NoMemory>
         touched.format(cell.touched).as_bytes(),
         row_word(&cell.row),
     ];
-    joined(alloc, &words)
+    join_words(alloc, &words)
 }
 
 // A kind as its word, or as its number if it has no word.
@@ -87,26 +87,26 @@ fn row_word(row: &Option<Shared>) -> &[u8]
 
 // Words, separated by single spaces.
 #[tactic(auto, using(crate::proofs::Lines::joined_behind))]
-fn joined(alloc: Global, words: &[&[u8]]) -> Result<Bytes, NoMemory>
-    ensures { IfOk result (λ text. text ≡ joined (map (λ word. word.now) words.now)) }
+fn join_words(alloc: Global, words: &[&[u8]]) -> Result<Bytes, NoMemory>
+    ensures { IfOk result (λ text. text ≡ with_spaces (map (λ word. word.now) words.now)) }
 {
     match words.split_first() {
-        Some((first, others)) => with_behind(alloc, first, others),
+        Some((first, others)) => join_after_first(alloc, first, others),
         None => Bytes::copy_of(alloc, b""),
     }
 }
 
 // A text followed by words, each after a space.
-fn with_behind(alloc: Global, first: &[u8], others: &[&[u8]]) -> Result<Bytes, NoMemory>
+fn join_after_first(alloc: Global, first: &[u8], others: &[&[u8]]) -> Result<Bytes, NoMemory>
     ensures { IfOk result (λ text. text ≡ first.now ++ flat_map (λ word. 32 ∷ word.now) others.now) }
 {
     let mut text = first.to_vec(alloc)?;
-    put_behind(&mut text, others)?;
+    append_words(&mut text, others)?;
     Ok(Bytes::from(text))
 }
 
 // Appends words to a text, each after a space.
-fn put_behind(text: &mut Vec<u8>, words: &[&[u8]]) -> Result<(), NoMemory>
+fn append_words(text: &mut Vec<u8>, words: &[&[u8]]) -> Result<(), NoMemory>
     ensures { OnOk result (text.new.items ≡ text.old.items ++ flat_map (λ word. 32 ∷ word.now) words.now) }
 {
     for word in words {

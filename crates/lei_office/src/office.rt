@@ -2,16 +2,16 @@
 ghost use Rattle.std.specs.Prelude.{◌≡◌, ◌≤◌, Some, take, IfErr, IfOk, IfSome, option_map};
 ghost use Rattle.lei_shapes.specs.Moment.{IsMoment};
 ghost use Rattle.lei_outside.specs.Count.{Rose};
-ghost use Rattle.lei_outside.specs.Keeping.{LeavesNoMore, Stays};
-ghost use Rattle.lei_records.specs.Tables.{IsSound, cells_of};
+ghost use Rattle.lei_outside.specs.Keeping.{LeavesNoMore, TablesStay};
+ghost use Rattle.lei_records.specs.Tables.{IsSoundTable, cells_of};
 ghost use Rattle.fetched_cells.specs.Fetching.{HasJust, fetched_keys};
-ghost use Rattle.fetched_cells.specs.Maps.{cells_in};
+ghost use Rattle.fetched_cells.specs.Maps.{fetched_view};
 ghost use Rattle.successor_rules.specs.Successors.{SuccessorChainsEnd};
-ghost use Rattle.relation_rules.specs.Parents.{AreApart, ParentChainsEnd};
+ghost use Rattle.relation_rules.specs.Parents.{ExceptionsExcludeParents, ParentChainsEnd};
 ghost use Rattle.upload_ledger.specs.History.{last_entry};
 ghost use Rattle.register_words.specs.declared.reply.Refusal.TheVariants.{KeeperFault};
 ghost use Rattle.register_words.specs.declared.reply.Reply.TheVariants.{Words};
-ghost use Rattle.register_words.specs.Requests.{IsNumbered, IsUploadNumber};
+ghost use Rattle.register_words.specs.Requests.{HasNumberInRange, IsUploadNumber};
 ghost use Rattle.register_words.specs.declared.request.Request.TheVariants.{Upload};
 ghost use Rattle.register_words.specs.Limits.{AreLimits};
 ghost use Rattle.register_history.specs.Kept.{Keeps, StaysUntold};
@@ -69,21 +69,23 @@ impl<K: Keeper> Office<K> {
         requires limits { AreLimits limits }
         ensures limits { IfOk result (λ opened. opened.office.limits ≡ limits) }
         ensures legal { IfOk result (λ opened. Legal opened.office) }
-        ensures sound { IfOk result (λ opened. IsSound (after opened.office.limits opened.office.history)) }
+        ensures sound { IfOk result
+            (λ opened. IsSoundTable (after opened.office.limits opened.office.history)) }
         ensures chained { IfOk result
             (λ opened. SuccessorChainsEnd (after opened.office.limits opened.office.history)) }
         ensures parents { IfOk result
             (λ opened. ParentChainsEnd (after opened.office.limits opened.office.history)) }
-        ensures apart { IfOk result (λ opened. AreApart (after opened.office.limits opened.office.history)) }
+        ensures apart { IfOk result
+            (λ opened. ExceptionsExcludeParents (after opened.office.limits opened.office.history)) }
         ensures permitted { IfOk result (λ opened. ChangesArePermitted opened.office) }
         ensures moments { IfOk result (λ opened. MomentsNeverFall opened.office.history) }
         ensures uploads { IfOk result (λ opened. UploadsAreNumbered opened.office.history) }
         ensures kept { IfOk result (λ opened. Keeps (K.tables opened.keeper) opened.office) }
-        ensures same { IfOk result (λ opened. Stays (K.tables keeper) (K.tables opened.keeper)) }
+        ensures same { IfOk result (λ opened. TablesStay (K.tables keeper) (K.tables opened.keeper)) }
         ensures crash { IfOk result (λ opened. LeavesNoMore (K.leaves keeper) (K.leaves opened.keeper)) }
         ensures faultless { IfOk result (λ opened. K.faults opened.keeper ≡ K.faults keeper) }
         ensures refused { IfErr result (IsRefused limits K.tables) }
-        ensures back { IfErr result (λ fault. Stays (K.tables keeper) (K.tables (keeper_back fault))) }
+        ensures back { IfErr result (λ fault. TablesStay (K.tables keeper) (K.tables (keeper_back fault))) }
         ensures back_crash { IfErr result
             (λ fault. LeavesNoMore (K.leaves keeper) (K.leaves (keeper_back fault))) }
         ensures failed { IfErr result
@@ -128,7 +130,7 @@ impl<K: Keeper> Office<K> {
     /// or that of the last entry if that is later, and is kept before the request is answered. A repeat of an upload
     /// gets the answer that was kept.
     pub fn answer<R: Threads + Sync>(&mut self, rt: &R, request: &Request, moment: Moment) -> Reply
-        requires { IsNumbered request.now }
+        requires { HasNumberInRange request.now }
         ensures step { Step self.old.office request.now moment result self.new.office }
         ensures kept { Keeps (K.tables self.new.keeper) self.new.office }
         ensures untold { StaysUntold (K.tables self.old.keeper) (K.tables self.new.keeper) }
@@ -141,10 +143,10 @@ impl<K: Keeper> Office<K> {
         ensures fault { result ≡ Words KeeperFault
             → Rose (K.faults self.old.keeper) (K.faults self.new.keeper) }
         ensures legal { Legal self.new.office }
-        ensures sound { IsSound (after self.new.office.limits self.new.office.history) }
+        ensures sound { IsSoundTable (after self.new.office.limits self.new.office.history) }
         ensures chained { SuccessorChainsEnd (after self.new.office.limits self.new.office.history) }
         ensures parents { ParentChainsEnd (after self.new.office.limits self.new.office.history) }
-        ensures apart { AreApart (after self.new.office.limits self.new.office.history) }
+        ensures apart { ExceptionsExcludeParents (after self.new.office.limits self.new.office.history) }
         ensures permitted { ChangesArePermitted self.new.office }
         ensures moments { MomentsNeverFall self.new.office.history }
         ensures uploads { UploadsAreNumbered self.new.office.history }
@@ -157,7 +159,7 @@ impl<K: Keeper> Office<K> {
     /// the direct parents from the record on, up to 200 members. Of all these cells the first 50,000 are
     /// fetched, and one that comes twice counts twice. This project's profile.
     pub fn fetch(&self, keys: &[CellKey]) -> Result<Fetched, NoMemory>
-        ensures cells { IfOk result (λ fetched. HasJust (cells_in fetched)
+        ensures cells { IfOk result (λ fetched. HasJust (fetched_view fetched)
             (cells_of (after self.now.office.limits self.now.office.history)) (take 50_000
             (fetched_keys (cells_of (after self.now.office.limits self.now.office.history)) keys.now))) }
         ensures legal { Legal self.now.office }

@@ -1,9 +1,9 @@
 //! Opens a store: its entries are replayed, and its cells are compared with those that the entries leave.
 ghost use Rattle.std.specs.Prelude.{◌≡◌, ◌≤◌, ◌<◌, ◌+◌, [], IfOk, IfSome, IsErrOf, min};
 ghost use Rattle.lei_outside.specs.Count.{Rose};
-ghost use Rattle.lei_outside.specs.Keeping.{AreKept, LeavesNoMore, Stays, last_number};
+ghost use Rattle.lei_outside.specs.Keeping.{AreKept, LeavesNoMore, TablesStay, last_number};
 ghost use Rattle.register_words.specs.Limits.{AreLimits};
-ghost use Rattle.lei_office.specs.Opening.{AllReplay, IsFound, IsRead};
+ghost use Rattle.lei_office.specs.Opening.{AllReplay, IsFoundInStore, IsStoreRead};
 
 use crate::comparing::{PAGE, compare_cells};
 use crate::replaying::replay_page;
@@ -40,8 +40,8 @@ pub fn read_store<K: Keeper, R: Threads + Sync>(
     keeper: &mut K,
 ) -> Result<Found, KeepFault>
     requires limits { AreLimits limits }
-    ensures found { IfOk result (IsFound limits (K.tables keeper.new)) }
-    ensures same { Stays (K.tables keeper.old) (K.tables keeper.new) }
+    ensures found { IfOk result (IsFoundInStore limits (K.tables keeper.new)) }
+    ensures same { TablesStay (K.tables keeper.old) (K.tables keeper.new) }
     ensures crash { LeavesNoMore (K.leaves keeper.old) (K.leaves keeper.new) }
     ensures count { K.faults keeper.old ≤ K.faults keeper.new }
     ensures faultless { ¬ (IsErrOf result KeepFault.Failed) → K.faults keeper.new ≡ K.faults keeper.old }
@@ -68,8 +68,8 @@ fn replay_store<K: Keeper, R: Threads + Sync>(
     requires kept { IfSome (K.tables keeper.old) AreKept }
     requires last { IfSome (K.tables keeper.old) (λ told. last ≡ last_number told) }
     requires empty { register.old.history ≡ [] }
-    ensures read { IfOk result (IsRead register.old.limits (K.tables keeper.new) register.new) }
-    ensures same { Stays (K.tables keeper.old) (K.tables keeper.new) }
+    ensures read { IfOk result (IsStoreRead register.old.limits (K.tables keeper.new) register.new) }
+    ensures same { TablesStay (K.tables keeper.old) (K.tables keeper.new) }
     ensures crash { LeavesNoMore (K.leaves keeper.old) (K.leaves keeper.new) }
     ensures count { K.faults keeper.old ≤ K.faults keeper.new }
     ensures faultless { ¬ (IsErrOf result KeepFault.Failed) → K.faults keeper.new ≡ K.faults keeper.old }
@@ -94,7 +94,7 @@ fn replay_entries<K: Keeper, R: Threads + Sync>(
     requires last { IfSome (K.tables keeper.old) (λ told. last ≡ last_number told) }
     requires empty { register.old.history ≡ [] }
     ensures replays { IfOk result (AllReplay register.old.limits (K.tables keeper.new) register.new) }
-    ensures same { Stays (K.tables keeper.old) (K.tables keeper.new) }
+    ensures same { TablesStay (K.tables keeper.old) (K.tables keeper.new) }
     ensures crash { LeavesNoMore (K.leaves keeper.old) (K.leaves keeper.new) }
     ensures count { K.faults keeper.old ≤ K.faults keeper.new }
     ensures faultless { ¬ (IsErrOf result KeepFault.Failed) → K.faults keeper.new ≡ K.faults keeper.old }

@@ -1,10 +1,10 @@
 //! Replays stored entries: each is put again as its own request, by its own rules and at its own moment.
 ghost use Rattle.std.specs.Prelude.{◌≡◌, IfOk, IfSome, Some, option_map};
 ghost use Rattle.lei_shapes.specs.Moment.{IsMoment};
-ghost use Rattle.register_history.specs.Damage.{accreditation_in, asked_by, missing, publication_in, request_in, upload_in};
-ghost use Rattle.register_history.specs.Legal.{may_follow};
+ghost use Rattle.register_history.specs.Damage.{missing, request_in, stored_accreditation, stored_publication, stored_request, stored_upload};
+ghost use Rattle.register_history.specs.Legal.{rules_may_follow};
 ghost use Rattle.register_words.specs.Refusals.{reply_words};
-ghost use Rattle.register_words.specs.Requests.{IsNumbered};
+ghost use Rattle.register_words.specs.Requests.{HasNumberInRange};
 ghost use Rattle.lei_office.specs.Opening.{PageReplays, Replays, decision_text};
 
 use crate::damage::entry_line;
@@ -91,9 +91,9 @@ fn replay_request<R: Threads + Sync>(
     moment: Moment,
     stored: &KeptEntry,
 ) -> Result<Option<Bytes>, NoMemory>
-    requires numbered { IsNumbered request.now }
+    requires numbered { HasNumberInRange request.now }
     requires moment { moment ≡ stored.now.moment }
-    requires asked { asked_by register.old.history stored.now ≡ Some request.now }
+    requires asked { stored_request register.old.history stored.now ≡ Some request.now }
     ensures { IfOk result (Replays register.old stored.now register.new) }
 {
     match register.replay(rt, request, moment, stored)? {
@@ -127,16 +127,17 @@ fn reply_words(alloc: Global, reply: Reply) -> Result<Bytes, NoMemory>
 
 // The request that a stored entry was taken for, with its moment. There is none if no request has the entry's values,
 // if its moment is out of range, or if its rules may not follow those of earlier entries.
-#[tactic(auto, unfolding(register_history::specs::Damage::asked_by))]
+#[tactic(auto, unfolding(register_history::specs::Damage::stored_request))]
 fn asked_by(
     alloc: Global,
     before: &[KeptEntry],
     stored: &KeptEntry,
 ) -> Result<Option<(Request, Moment)>, NoMemory>
-    ensures request { IfOk result (λ asked. option_map (λ one. one.0) asked ≡ asked_by before.now stored.now) }
+    ensures request { IfOk result (λ asked. option_map (λ one. one.0) asked
+        ≡ stored_request before.now stored.now) }
     ensures moment { IfOk result (λ asked. IfSome asked (λ one. one.1 ≡ stored.now.moment)) }
     ensures in_range { IfOk result (λ asked. IfSome asked (λ one. IsMoment stored.now.moment)) }
-    ensures numbered { IfOk result (λ asked. IfSome asked (λ one. IsNumbered one.0)) }
+    ensures numbered { IfOk result (λ asked. IfSome asked (λ one. HasNumberInRange one.0)) }
 {
     let Some(moment) = Moment::of(stored.moment) else {
         return Ok(None);
@@ -153,7 +154,7 @@ fn asked_by(
 // Whether an entry after these may have the rules of this number: such rules exist, and they aren't lower than those of
 // the last entry.
 fn may_follow(before: &[KeptEntry], rules: u16) -> bool
-    ensures { result ≡ may_follow before.now rules }
+    ensures { result ≡ rules_may_follow before.now rules }
 {
     let last = match before.last() {
         Some(entry) => entry.rules,
@@ -165,7 +166,7 @@ fn may_follow(before: &[KeptEntry], rules: u16) -> bool
 // The request that an entry was taken for, by the entry's kind.
 fn request_in(alloc: Global, stored: &KeptEntry) -> Result<Option<Request>, NoMemory>
     ensures request { IfOk result (λ request. request ≡ request_in stored.now) }
-    ensures numbered { IfOk result (λ request. IfSome request IsNumbered) }
+    ensures numbered { IfOk result (λ request. IfSome request HasNumberInRange) }
 {
     match stored.kind {
         ACCREDIT => Ok(accreditation_in(stored)),
@@ -177,8 +178,8 @@ fn request_in(alloc: Global, stored: &KeptEntry) -> Result<Option<Request>, NoMe
 
 // The accreditation that an entry was taken for. Its entry has neither a number nor a body.
 fn accreditation_in(stored: &KeptEntry) -> Option<Request>
-    ensures request { result ≡ accreditation_in stored.now }
-    ensures numbered { IfSome result IsNumbered }
+    ensures request { result ≡ stored_accreditation stored.now }
+    ensures numbered { IfSome result HasNumberInRange }
 {
     match Lei::read(stored.office.as_slice()) {
         Ok(issuer) if stored.number == 0 && stored.body.is_empty() => Some(Request::Accredit(
@@ -190,8 +191,8 @@ fn accreditation_in(stored: &KeptEntry) -> Option<Request>
 
 // The upload that an entry was taken for.
 fn upload_in(alloc: Global, stored: &KeptEntry) -> Result<Option<Request>, NoMemory>
-    ensures request { IfOk result (λ request. request ≡ upload_in stored.now) }
-    ensures numbered { IfOk result (λ request. IfSome request IsNumbered) }
+    ensures request { IfOk result (λ request. request ≡ stored_upload stored.now) }
+    ensures numbered { IfOk result (λ request. IfSome request HasNumberInRange) }
 {
     match Lei::read(stored.office.as_slice()) {
         Ok(office) if is_upload_number(stored.number) => {
@@ -208,8 +209,8 @@ fn upload_in(alloc: Global, stored: &KeptEntry) -> Result<Option<Request>, NoMem
 
 // The publication that an entry was taken for. Its entry has neither an office nor a body.
 fn publication_in(stored: &KeptEntry) -> Option<Request>
-    ensures request { result ≡ publication_in stored.now }
-    ensures numbered { IfSome result IsNumbered }
+    ensures request { result ≡ stored_publication stored.now }
+    ensures numbered { IfSome result HasNumberInRange }
 {
     if stored.office.is_empty() && is_upload_number(stored.number) && stored.body.is_empty() {
         Some(Request::Publish(stored.number))

@@ -2,7 +2,7 @@
 use Rattle.std.proofs.Common.{◌≡◌, ℕ, ◌+◌, ◌-◌, ◌^◌, ◌<◌, ◌≤◌, ◌==◌, ℤ, List, [], ◌∷◌, ◌++◌, length, take, replicate, Bool, true, false, cond, inl, inr, Option, Some, None, refl, sym, ap, ◌∙◌, append_assoc, arith}
 use Rattle.std.proofs.lemmas.Bool.Decides.{eqb_tells, leb_tells}
 use Rattle.std.proofs.lemmas.List.{append-nil, take_all, take_more, get_or_past, replicate-append-replicate}
-use Rattle.lei_outside.specs.Count.{counted}
+use Rattle.lei_outside.specs.Count.{count_up}
 use Rattle.lei_outside.specs.Clock.{ClockState, Gave, first_moments, given_by, last_moment, moment_after}
 
 -- one more of the list
@@ -33,12 +33,12 @@ gave_by true false moments calls now stays counts = let bad : false ≡ true = s
 gave_by false true moments calls now stays counts = tt
 gave_by false false moments calls now stays counts = ap (first_moments moments) (counts refl refl) ∙ one_more moments calls
 
-pub gave_one : (clock : ClockState) (moment : ℤ) → moment ≡ moment_after clock.moments clock.calls → Gave (given_by clock) (given_by (record clock { calls = counted clock.calls })) (moment ∷ [])
+pub gave_one : (clock : ClockState) (moment : ℤ) → moment ≡ moment_after clock.moments clock.calls → Gave (given_by clock) (given_by (record clock { calls = count_up clock.calls })) (moment ∷ [])
 gave_one clock moment is =
     let calls = clock.calls in
-    rw is (gave_by (calls == 2 ^ 64 - 1) (counted calls == 2 ^ 64 - 1) clock.moments calls (counted calls)
-    (λ was. elim (eqb_tells calls (2 ^ 64 - 1)) [ inl e ↦ elim (eqb_tells (counted calls) (2 ^ 64 - 1)) [ inl f ↦ f.0 | inr f ↦ absurd (f.1 (omega (arith, e.1))) ] | inr e ↦ cc ])
-    (λ was now. elim (eqb_tells calls (2 ^ 64 - 1)) [ inl e ↦ cc | inr e ↦ elim (eqb_tells (counted calls) (2 ^ 64 - 1)) [ inl f ↦ cc | inr f ↦ omega (arith, e.1, f.1) ] ]))
+    rw is (gave_by (calls == 2 ^ 64 - 1) (count_up calls == 2 ^ 64 - 1) clock.moments calls (count_up calls)
+    (λ was. elim (eqb_tells calls (2 ^ 64 - 1)) [ inl e ↦ elim (eqb_tells (count_up calls) (2 ^ 64 - 1)) [ inl f ↦ f.0 | inr f ↦ absurd (f.1 (omega (arith, e.1))) ] | inr e ↦ cc ])
+    (λ was now. elim (eqb_tells calls (2 ^ 64 - 1)) [ inl e ↦ cc | inr e ↦ elim (eqb_tells (count_up calls) (2 ^ 64 - 1)) [ inl f ↦ cc | inr f ↦ omega (arith, e.1, f.1) ] ]))
 
 -- ---- any clock
 

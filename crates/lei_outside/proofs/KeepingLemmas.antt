@@ -10,7 +10,7 @@ use Rattle.std.proofs.lemmas.List.Sums.{fold-append}
 use Rattle.lei_outside.specs.declared.entry.KeptEntry.{KeptEntry}
 use Rattle.lei_outside.specs.declared.keeper.Batch.{Batch}
 use Rattle.lei_outside.specs.declared.keeper.KeptCell.{KeptCell}
-use Rattle.lei_outside.specs.Keeping.{AreKept, AreTouched, CellContent, Cells, IsBatch, IsCellOf, IsEntryNumber, RiseFrom, content_of, last_number, number_of, place_of, put_cell, put_cells}
+use Rattle.lei_outside.specs.Keeping.{AreKept, AreTouched, CellContent, CellsByPlace, IsBatch, IsCellOf, IsEntryNumber, RiseFrom, cell_content, cell_place, entry_number, last_number, put_cell, put_cells}
 use Rattle.lei_outside.specs.Memory.{AreOfEntries, MayBeKept, SureKeeperState, tables_of, with_kept}
 
 -- ---- entries
@@ -20,15 +20,15 @@ abbrev last_from : ℕ → List KeptEntry → ℕ
 last_from number [] = number
 last_from number (e ∷ list) = last_from e.seq list
 
-last_is : (e : KeptEntry) (list : List KeptEntry) → number_of (slice_get (e ∷ list) (length list)) ≡ last_from e.seq list
+last_is : (e : KeptEntry) (list : List KeptEntry) → entry_number (slice_get (e ∷ list) (length list)) ≡ last_from e.seq list
 last_is e [] = refl
 last_is e (next ∷ list) = last_is next list
 
-last_of : (list : List KeptEntry) → number_of (slice_get list (length list - 1)) ≡ last_from 0 list
+last_of : (list : List KeptEntry) → entry_number (slice_get list (length list - 1)) ≡ last_from 0 list
 last_of [] = refl
 last_of (e ∷ list) =
     let before : length (e ∷ list) - 1 ≡ length list = omega arith in
-    ap (λ n. number_of (slice_get (e ∷ list) n)) before ∙ last_is e list
+    ap (λ n. entry_number (slice_get (e ∷ list) n)) before ∙ last_is e list
 
 rise_on : (number : ℕ) (list : List KeptEntry) (e : KeptEntry) → RiseFrom number list → last_from number list < e.seq → RiseFrom number (list ++ e ∷ [])
 rise_on number [] e rise more = (more, tt)
@@ -45,17 +45,17 @@ touched_by : (b : Bool) (new : CellContent) (old : Option CellContent) (content 
 touched_by true new old content is low kept = subst (λ o. IfSome o (λ c. IsEntryNumber c.touched)) is low
 touched_by false new old content is low kept = kept is
 
-put_touched : (cells : Cells) (cell : KeptCell) → AreTouched cells → IsEntryNumber cell.touched → AreTouched (put_cell cells cell)
+put_touched : (cells : CellsByPlace) (cell : KeptCell) → AreTouched cells → IsEntryNumber cell.touched → AreTouched (put_cell cells cell)
 put_touched cells cell are low place content is =
-    touched_by (eq_by_cmp (slice_cmp nat_cmp) place (place_of cell)) (content_of cell) (get cells place) content
-    (sym (get-insert nat_list_cmp_total cells (place_of cell) (content_of cell) place) ∙ is) low (are place content)
+    touched_by (eq_by_cmp (slice_cmp nat_cmp) place (cell_place cell)) (cell_content cell) (get cells place) content
+    (sym (get-insert nat_list_cmp_total cells (cell_place cell) (cell_content cell) place) ∙ is) low (are place content)
 
-all_touched : (number : ℕ) (cells : Cells) (list : List KeptCell) → IsEntryNumber number → AllByRecursion (IsCellOf number) list → AreTouched cells → AreTouched (put_cells cells list)
+all_touched : (number : ℕ) (cells : CellsByPlace) (list : List KeptCell) → IsEntryNumber number → AllByRecursion (IsCellOf number) list → AreTouched cells → AreTouched (put_cells cells list)
 all_touched number cells [] is all are = are
 all_touched number cells (cell ∷ list) is all are =
     all_touched number (put_cell cells cell) list is all.1 (put_touched cells cell are (subst IsEntryNumber (sym all.0.0) is))
 
-came_touched : (cells : Cells) (list : List KeptCell) → AreOfEntries list → AreTouched cells → AreTouched (put_cells cells list)
+came_touched : (cells : CellsByPlace) (list : List KeptCell) → AreOfEntries list → AreTouched cells → AreTouched (put_cells cells list)
 came_touched cells [] all are = are
 came_touched cells (cell ∷ list) all are = came_touched (put_cell cells cell) list all.1 (put_touched cells cell are all.0)
 

@@ -23,32 +23,32 @@ pub record CellContent : Type 0 where
   pub row : Option (List ℕ)
 
 -- Cells in their places.
-abbrev pub Cells : Type 0
-Cells = FinMap (slice_cmp nat_cmp) CellContent
+abbrev pub CellsByPlace : Type 0
+CellsByPlace = FinMap (slice_cmp nat_cmp) CellContent
 
 -- What is kept: the entries in order, and the cells.
 pub record KeptTables : Type 0 where
   pub entries : List KeptEntry
-  pub cells : Cells
+  pub cells : CellsByPlace
 
 -- The tables of a keeper that has kept nothing.
 abbrev pub nothing_kept : KeptTables
 nothing_kept = record { entries = []; cells = empty }
 
 -- The place of a cell.
-abbrev pub place_of : KeptCell → CellPlace
-place_of cell = cell.kind ∷ cell.name
+abbrev pub cell_place : KeptCell → CellPlace
+cell_place cell = cell.kind ∷ cell.name
 
 -- What is kept of it.
-abbrev pub content_of : KeptCell → CellContent
-content_of cell = record { touched = cell.touched; row = cell.row }
+abbrev pub cell_content : KeptCell → CellContent
+cell_content cell = record { touched = cell.touched; row = cell.row }
 
 -- The cells after this one was put in its place.
-abbrev pub put_cell : Cells → KeptCell → Cells
-put_cell cells cell = insert cells (place_of cell) (content_of cell)
+abbrev pub put_cell : CellsByPlace → KeptCell → CellsByPlace
+put_cell cells cell = insert cells (cell_place cell) (cell_content cell)
 
 -- The cells after all of these were put in their places, from the first to the last.
-abbrev pub put_cells : Cells → List KeptCell → Cells
+abbrev pub put_cells : CellsByPlace → List KeptCell → CellsByPlace
 put_cells cells list = fold put_cell cells list
 
 -- The tables after a batch: its entry is added after the others, and its cells are put in their places.
@@ -70,7 +70,7 @@ abbrev pub IsEntryNumber : ℕ → Type 0
 IsEntryNumber number = (1 ≤ number) × (number ≤ 18446744073709551615)
 
 -- Each cell was touched by an entry.
-abbrev pub AreTouched : Cells → Type 0
+abbrev pub AreTouched : CellsByPlace → Type 0
 AreTouched cells = (place : CellPlace) (content : CellContent) → get cells place ≡ Some content
     → IsEntryNumber content.touched
 
@@ -82,13 +82,13 @@ pub record AreKept (tables : KeptTables) : Type 0 where
 -- ---- what is read of them
 
 -- The number of an entry, or 0 if there is none.
-abbrev pub number_of : Option KeptEntry → ℕ
-number_of None = 0
-number_of (Some e) = e.seq
+abbrev pub entry_number : Option KeptEntry → ℕ
+entry_number None = 0
+entry_number (Some e) = e.seq
 
 -- The number of the last entry, or 0 if there is none.
 abbrev pub last_number : KeptTables → ℕ
-last_number tables = number_of (slice_get tables.entries (length tables.entries - 1))
+last_number tables = entry_number (slice_get tables.entries (length tables.entries - 1))
 
 -- The entries whose number is greater than the first number and at most the second.
 abbrev pub entries_between : ℕ → ℕ → KeptTables → List KeptEntry
@@ -113,9 +113,9 @@ abbrev pub IsCellOf : ℕ → KeptCell → Type 0
 IsCellOf number cell = (cell.touched ≡ number) × IsAscii cell.name
 
 -- No two cells have the same place.
-abbrev pub AreApart : List KeptCell → Type 0
-AreApart [] = ⊤
-AreApart (cell ∷ list) = AllByRecursion (λ other. place_of other ≢ place_of cell) list × AreApart list
+abbrev pub HaveOwnPlaces : List KeptCell → Type 0
+HaveOwnPlaces [] = ⊤
+HaveOwnPlaces (cell ∷ list) = AllByRecursion (λ other. cell_place other ≢ cell_place cell) list × HaveOwnPlaces list
 
 -- A batch that may be committed: the number of its entry is at most 9,223,372,036,854,775,807, which a store has room
 -- for; its cells are cells of this entry, each in its own place; and the texts that name something are ASCII.
@@ -123,7 +123,7 @@ pub record IsBatch (batch : Batch) : Type 0 where
   pub number : batch.entry.seq ≤ 9223372036854775807
   pub office : IsAscii batch.entry.office
   pub cells : AllByRecursion (IsCellOf batch.entry.seq) batch.cells
-  pub apart : AreApart batch.cells
+  pub apart : HaveOwnPlaces batch.cells
 
 -- If the tables are told, the batch's entry has the number that follows the last.
 abbrev pub IsNextOf : Option KeptTables → Batch → Type 0
@@ -140,14 +140,14 @@ Becomes change (Some old) None = ⊤
 Becomes change (Some old) (Some new) = new ≡ change old
 
 -- The told tables are as they were.
-abbrev pub Stays : Option KeptTables → Option KeptTables → Type 0
-Stays old new = Becomes (λ tables. tables) old new
+abbrev pub TablesStay : Option KeptTables → Option KeptTables → Type 0
+TablesStay old new = Becomes (λ tables. tables) old new
 
 -- A batch was kept whole, or nothing of it.
 abbrev pub Commits : {E : Type 0} → Batch → Result (Unit {0}) E → Option KeptTables
     → Option KeptTables → Type 0
 Commits batch result old new =
-    MatchResult result (λ _. Becomes (with_batch batch) old new) (λ _. Stays old new)
+    MatchResult result (λ _. Becomes (with_batch batch) old new) (λ _. TablesStay old new)
 
 -- ---- what a crash may leave
 

@@ -7,5 +7,5 @@ pub record LinkTold : Type 0 where
   pub written : Option (List ℕ)
 
 -- What a link tells, by what it tells of each direction.
-abbrev pub told_by : {L : Type 0} → (L → Option (List ℕ)) → (L → Option (List ℕ)) → L → LinkTold
-told_by left written link = record { left = left link; written = written link }
+abbrev pub link_told : {L : Type 0} → (L → Option (List ℕ)) → (L → Option (List ℕ)) → L → LinkTold
+link_told left written link = record { left = left link; written = written link }

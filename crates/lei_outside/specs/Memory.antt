@@ -1,7 +1,7 @@
 -- Sources, sinks and keepers in memory, as contracts see them.
 use Rattle.std.specs.Prelude.{ℕ, List, [], ◌∷◌, ◌++◌, Bool, Contains}
 use Rattle.std.specs.FinMap.{empty}
-use Rattle.lei_outside.specs.Count.{counted}
+use Rattle.lei_outside.specs.Count.{count_up}
 use Rattle.std.specs.List.{AllByRecursion}
 use Rattle.lei_outside.specs.Keeping.{IsEntryNumber, KeptTables, RiseFrom, put_cells}
 use Rattle.lei_outside.specs.declared.entry.KeptEntry.{KeptEntry}
@@ -71,7 +71,7 @@ with_kept batch keeper =
     record { entries = keeper.entries ++ batch.entry ∷ []; cells = keeper.cells ++ batch.cells }
 
 -- A keeper in memory: what it keeps, the numbers of the calls that fail, and how many calls there were and have failed.
-pub record KeeperState : Type 0 where
+pub record MemoryKeeperState : Type 0 where
   pub kept : SureKeeperState
   pub failing : List ℕ
   pub calls : ℕ
@@ -79,4 +79,4 @@ pub record KeeperState : Type 0 where
 
 -- After this many calls, the next one is among those that fail. The first call has the number 1.
 abbrev pub FailsNext : List ℕ → ℕ → Type 0
-FailsNext failing calls = Contains failing (counted calls)
+FailsNext failing calls = Contains failing (count_up calls)

@@ -1,6 +1,6 @@
 // The calls of a device in memory, some of which fail by design.
 ghost use Rattle.std.specs.Prelude.{◌≡◌, ◌↔◌, ◌≤◌, IsTrue, if◌then◌else◌};
-ghost use Rattle.lei_outside.specs.Count.{counted};
+ghost use Rattle.lei_outside.specs.Count.{count_up};
 ghost use Rattle.lei_outside.specs.Memory.{FailsNext};
 
 use crate::List;
@@ -26,8 +26,8 @@ impl Calls {
     // Counts a call, and returns whether it fails.
     pub fn next_fails(&mut self) -> bool
         ensures fails { IsTrue result ↔ FailsNext self.old.failing self.old.count }
-        ensures count { self.new.count ≡ counted self.old.count }
-        ensures faults { self.new.faults ≡ (if result then counted self.old.faults else self.old.faults) }
+        ensures count { self.new.count ≡ count_up self.old.count }
+        ensures faults { self.new.faults ≡ (if result then count_up self.old.faults else self.old.faults) }
         ensures rising { self.old.faults ≤ self.new.faults }
         ensures same { self.new.failing ≡ self.old.failing }
     {

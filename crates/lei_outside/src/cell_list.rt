@@ -4,8 +4,8 @@ ghost use Rattle.std.specs.FinMap.{empty, entries};
 ghost use Rattle.std.specs.BTreeMap.{IsOrdered};
 ghost use Rattle.std.specs.Cmp.Lexicographic.{slice_cmp};
 ghost use Rattle.std.specs.Ordering.{nat_cmp};
-ghost use Rattle.lei_outside.specs.CellLists.{between_of, cells_in, content_at};
-ghost use Rattle.lei_outside.specs.Keeping.{cell_at, content_of, place_of, put_cell, put_cells};
+ghost use Rattle.lei_outside.specs.CellLists.{between_of, cells_by_place, content_at};
+ghost use Rattle.lei_outside.specs.Keeping.{cell_at, cell_content, cell_place, put_cell, put_cells};
 
 use crate::keeper::shared_row;
 use crate::{Bytes, KeptCell, NoMemory};
@@ -26,11 +26,11 @@ pub fn cells_between(
     ensures { IfOk result (λ list. list.items ≡ between_of after upto (entries (put_cells empty cells.now))) }
 {
     let places = by_place(alloc, cells)?;
-    told(alloc, &places, after, upto)
+    list_between(alloc, &places, after, upto)
 }
 
 fn by_place<'a>(alloc: Global, cells: &'a [KeptCell]) -> Result<Places<'a>, NoMemory>
-    ensures { IfOk result (λ places. cells_in places.entries ≡ put_cells empty cells.now) }
+    ensures { IfOk result (λ places. cells_by_place places.entries ≡ put_cells empty cells.now) }
 {
     let mut places = BTreeMap::new(alloc);
     for cell in cells {
@@ -40,7 +40,8 @@ fn by_place<'a>(alloc: Global, cells: &'a [KeptCell]) -> Result<Places<'a>, NoMe
 }
 
 fn put<'a>(alloc: Global, places: &mut Places<'a>, cell: &'a KeptCell) -> Result<(), NoMemory>
-    ensures { OnOk result (cells_in places.new.entries ≡ put_cell (cells_in places.old.entries) cell.now) }
+    ensures { OnOk result (cells_by_place places.new.entries
+        ≡ put_cell (cells_by_place places.old.entries) cell.now) }
 {
     match places.insert(place_of(alloc, cell)?, cell) {
         Ok(_) => Ok(()),
@@ -49,7 +50,7 @@ fn put<'a>(alloc: Global, places: &mut Places<'a>, cell: &'a KeptCell) -> Result
 }
 
 fn place_of(alloc: Global, cell: &KeptCell) -> Result<Bytes, NoMemory>
-    ensures { IfOk result (λ place. place ≡ place_of cell.now) }
+    ensures { IfOk result (λ place. place ≡ cell_place cell.now) }
 {
     let mut place = Vec::new(alloc);
     place.push(cell.kind)?;
@@ -57,7 +58,7 @@ fn place_of(alloc: Global, cell: &KeptCell) -> Result<Bytes, NoMemory>
     Ok(Bytes::from(place))
 }
 
-fn told(
+fn list_between(
     alloc: Global,
     places: &Places<'_>,
     after: u64,
@@ -80,7 +81,7 @@ fn told(
 
 // A copy of the cell in a place.
 fn cell_in(alloc: Global, place: &[u8], cell: &KeptCell) -> Result<KeptCell, NoMemory>
-    ensures { IfOk result (λ copy. copy ≡ cell_at (place.now, content_of cell.now)) }
+    ensures { IfOk result (λ copy. copy ≡ cell_at (place.now, cell_content cell.now)) }
 {
     let (kind, name) = match place {
         [kind, name @ ..] => (*kind, name),

@@ -1,7 +1,7 @@
 // The device that keeps entries and cells.
 ghost use Rattle.std.specs.Prelude.{◌≡◌, ℕ, ◌≤◌, Option, Some, IfOk, OnOk, IfSome, IsErrOf};
 ghost use Rattle.lei_outside.specs.Count.{Rose};
-ghost use Rattle.lei_outside.specs.Keeping.{AreKept, CommitLeaves, Commits, IsBatch, IsNextOf, KeptTables, LeavesNoMore, Stays, cells_between, entries_between, last_number};
+ghost use Rattle.lei_outside.specs.Keeping.{AreKept, CommitLeaves, Commits, IsBatch, IsNextOf, KeptTables, LeavesNoMore, TablesStay, cells_between, entries_between, last_number};
 
 use crate::{Bytes, KeepFault, KeptEntry, List, NoMemory, Shared};
 use std::alloc::Global;
@@ -66,7 +66,7 @@ pub trait Keeper {
         ensures answer { IfSome (tables self.new)
             (λ told. IfOk result (λ number. number ≡ last_number told)) }
         ensures kept { OnOk result (IfSome (tables self.new) AreKept) }
-        ensures same { Stays (tables self.old) (tables self.new) }
+        ensures same { TablesStay (tables self.old) (tables self.new) }
         ensures crash { LeavesNoMore (leaves self.old) (leaves self.new) }
         ensures count { faults self.old ≤ faults self.new }
         ensures faultless { ¬ (IsErrOf result KeepFault.Failed) → faults self.new ≡ faults self.old }
@@ -76,7 +76,7 @@ pub trait Keeper {
     fn entries(&mut self, after: u64, upto: u64) -> Result<List<KeptEntry>, KeepFault>
         ensures answer { IfSome (tables self.new)
             (λ told. IfOk result (λ list. list ≡ entries_between after upto told)) }
-        ensures same { Stays (tables self.old) (tables self.new) }
+        ensures same { TablesStay (tables self.old) (tables self.new) }
         ensures crash { LeavesNoMore (leaves self.old) (leaves self.new) }
         ensures count { faults self.old ≤ faults self.new }
         ensures faultless { ¬ (IsErrOf result KeepFault.Failed) → faults self.new ≡ faults self.old }
@@ -87,7 +87,7 @@ pub trait Keeper {
     fn cells(&mut self, after: u64, upto: u64) -> Result<List<KeptCell>, KeepFault>
         ensures answer { IfSome (tables self.new)
             (λ told. IfOk result (λ list. list ≡ cells_between after upto told)) }
-        ensures same { Stays (tables self.old) (tables self.new) }
+        ensures same { TablesStay (tables self.old) (tables self.new) }
         ensures crash { LeavesNoMore (leaves self.old) (leaves self.new) }
         ensures count { faults self.old ≤ faults self.new }
         ensures faultless { ¬ (IsErrOf result KeepFault.Failed) → faults self.new ≡ faults self.old }

@@ -1,7 +1,7 @@
 // A clock that gives moments from memory.
 ghost use Rattle.std.specs.Prelude.{◌≡◌, ℤ, List as Items, [], ◌∷◌, All};
 ghost use Rattle.lei_outside.specs.Clock.{ClockState, Gave, IsClockMoment, given_by, moment_after};
-ghost use Rattle.lei_outside.specs.Count.{counted};
+ghost use Rattle.lei_outside.specs.Count.{count_up};
 
 use crate::{Clock, List};
 use std::marker::Model;
@@ -50,7 +50,7 @@ impl Clock for ListClock {
         ensures range { IsClockMoment result }
         ensures given { Gave (given_by self.old) (given_by self.new) (result ∷ []) }
         ensures moment { result ≡ moment_after self.old.moments self.old.calls }
-        ensures counts { self.new ≡ record self.old { calls = counted self.old.calls } }
+        ensures counts { self.new ≡ record self.old { calls = count_up self.old.calls } }
     {
         let moment = moment_after(self.moments.as_slice(), self.calls);
         self.calls = self.calls.saturating_add(1);

@@ -1,6 +1,6 @@
 // Keepers that keep in memory.
 ghost use Rattle.std.specs.Prelude.{◌≡◌, ◌↔◌, ◌≤◌, [], Some, IfOk, OnOk, OnErr, IsErrOf, IsTrue};
-ghost use Rattle.lei_outside.specs.Count.{Rose, counted};
+ghost use Rattle.lei_outside.specs.Count.{Rose, count_up};
 ghost use Rattle.lei_outside.specs.Keeping.{AreKept, IsBatch, IsNextOf, RiseFrom, cells_between, entries_between, last_number};
 ghost use Rattle.lei_outside.specs.Memory.{AreOfEntries, FailsNext, MayBeKept, tables_of, with_kept};
 
@@ -159,9 +159,9 @@ pub struct MapKeeper {
 }
 
 impl Model for MapKeeper {
-    ghost use Rattle.lei_outside.specs.Memory.{KeeperState};
+    ghost use Rattle.lei_outside.specs.Memory.{MemoryKeeperState};
 
-    ghost Value = { KeeperState };
+    ghost Value = { MemoryKeeperState };
 
     ghost view = { λ k. record {
       kept = k.keeper;
@@ -235,7 +235,7 @@ impl Keeper for MapKeeper {
         ensures faultless { ¬ (IsErrOf result KeepFault.Failed) → self.new.faults ≡ self.old.faults }
         ensures failed { IsErrOf result KeepFault.Failed → Rose self.old.faults self.new.faults }
         ensures fails { IsErrOf result KeepFault.Failed ↔ FailsNext self.old.failing self.old.calls }
-        ensures calls { self.new.calls ≡ counted self.old.calls }
+        ensures calls { self.new.calls ≡ count_up self.old.calls }
         ensures failing { self.new.failing ≡ self.old.failing }
     {
         if self.calls.next_fails() {
@@ -251,7 +251,7 @@ impl Keeper for MapKeeper {
         ensures faultless { ¬ (IsErrOf result KeepFault.Failed) → self.new.faults ≡ self.old.faults }
         ensures failed { IsErrOf result KeepFault.Failed → Rose self.old.faults self.new.faults }
         ensures fails { IsErrOf result KeepFault.Failed ↔ FailsNext self.old.failing self.old.calls }
-        ensures calls { self.new.calls ≡ counted self.old.calls }
+        ensures calls { self.new.calls ≡ count_up self.old.calls }
         ensures failing { self.new.failing ≡ self.old.failing }
     {
         if self.calls.next_fails() {
@@ -267,7 +267,7 @@ impl Keeper for MapKeeper {
         ensures faultless { ¬ (IsErrOf result KeepFault.Failed) → self.new.faults ≡ self.old.faults }
         ensures failed { IsErrOf result KeepFault.Failed → Rose self.old.faults self.new.faults }
         ensures fails { IsErrOf result KeepFault.Failed ↔ FailsNext self.old.failing self.old.calls }
-        ensures calls { self.new.calls ≡ counted self.old.calls }
+        ensures calls { self.new.calls ≡ count_up self.old.calls }
         ensures failing { self.new.failing ≡ self.old.failing }
     {
         if self.calls.next_fails() {
@@ -285,7 +285,7 @@ impl Keeper for MapKeeper {
         ensures faultless { ¬ (IsErrOf result KeepFault.Failed) → self.new.faults ≡ self.old.faults }
         ensures failed { IsErrOf result KeepFault.Failed → Rose self.old.faults self.new.faults }
         ensures fails { IsErrOf result KeepFault.Failed ↔ FailsNext self.old.failing self.old.calls }
-        ensures calls { self.new.calls ≡ counted self.old.calls }
+        ensures calls { self.new.calls ≡ count_up self.old.calls }
         ensures failing { self.new.failing ≡ self.old.failing }
     {
         if self.calls.next_fails() {

@@ -1,7 +1,7 @@
 // Links and doors in memory.
 ghost use Rattle.std.specs.Prelude.{◌≡◌, ◌↔◌, ◌<◌, ◌≤◌, ◌++◌, ◌∷◌, [], Some, Bool, false, true, length, min, take, drop, IsErr, IfOk, OnErr, IsErrOf};
 ghost use Rattle.lei_outside.specs.Told.{Reads, Writes};
-ghost use Rattle.lei_outside.specs.Count.{Rose, counted};
+ghost use Rattle.lei_outside.specs.Count.{Rose, count_up};
 ghost use Rattle.lei_outside.specs.Doors.{ComesOf, IsFailed, is_line};
 ghost use Rattle.lei_outside.specs.Memory.{DoorState, FailsNext, LinkState};
 
@@ -71,11 +71,11 @@ impl Link for ByteLink {
             n ≡ min (min self.old.source.most (length buffer.old)) (length self.old.source.left)) }
         ensures ok { IfOk result (λ n. self.new.source ≡ record self.old.source {
           left = drop n self.old.source.left;
-          calls = counted self.old.source.calls;
+          calls = count_up self.old.source.calls;
         }) }
         ensures err { OnErr result (self.new.source ≡ record self.old.source {
-          calls = counted self.old.source.calls;
-          faults = counted self.old.source.faults;
+          calls = count_up self.old.source.calls;
+          faults = count_up self.old.source.faults;
         }) }
     {
         self.source.read(buffer)
@@ -93,14 +93,14 @@ impl Link for ByteLink {
         ensures size { IfOk result (λ n. n ≡ min self.old.sink.most (length piece.now)) }
         ensures ok { IfOk result (λ n. self.new.sink ≡ record self.old.sink {
           written = self.old.sink.written ++ take n piece.now;
-          calls = counted self.old.sink.calls;
+          calls = count_up self.old.sink.calls;
         }) }
         ensures fault { IsErrOf result SinkFault.Failed → self.new.sink ≡ record self.old.sink {
-          calls = counted self.old.sink.calls;
-          faults = counted self.old.sink.faults;
+          calls = count_up self.old.sink.calls;
+          faults = count_up self.old.sink.faults;
         } }
         ensures no_memory { IsErrOf result SinkFault.NoMemory →
-            self.new.sink ≡ record self.old.sink { calls = counted self.old.sink.calls } }
+            self.new.sink ≡ record self.old.sink { calls = count_up self.old.sink.calls } }
     {
         self.sink.write(piece)
     }

@@ -1,7 +1,7 @@
 // Sinks that take bytes into memory.
 ghost use Rattle.std.specs.Prelude.{◌≡◌, ◌↔◌, ◌<◌, ◌≤◌, ◌++◌, [], Some, length, min, take, IfOk, IsErrOf};
 ghost use Rattle.lei_outside.specs.Told.{Writes};
-ghost use Rattle.lei_outside.specs.Count.{Rose, counted};
+ghost use Rattle.lei_outside.specs.Count.{Rose, count_up};
 ghost use Rattle.lei_outside.specs.Memory.{SinkState, SureSinkState, FailsNext};
 
 use crate::calls::Calls;
@@ -132,12 +132,12 @@ impl Sink for ByteSink {
         ensures ok { IfOk result (λ n.
             self.new ≡ record self.old {
               written = self.old.written ++ take n piece.now;
-              calls = counted self.old.calls;
+              calls = count_up self.old.calls;
             }) }
         ensures fault { IsErrOf result SinkFault.Failed →
-            self.new ≡ record self.old { calls = counted self.old.calls; faults = counted self.old.faults } }
+            self.new ≡ record self.old { calls = count_up self.old.calls; faults = count_up self.old.faults } }
         ensures no_memory { IsErrOf result SinkFault.NoMemory →
-            self.new ≡ record self.old { calls = counted self.old.calls } }
+            self.new ≡ record self.old { calls = count_up self.old.calls } }
     {
         if self.calls.next_fails() {
             return Err(SinkFault::Failed);

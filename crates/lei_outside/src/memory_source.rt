@@ -1,7 +1,7 @@
 // Sources that give bytes from memory.
 ghost use Rattle.std.specs.Prelude.{◌≡◌, ◌↔◌, ◌<◌, ◌≤◌, ◌++◌, Some, length, min, take, drop, IsOk, IsErr, IfOk, OnErr};
 ghost use Rattle.lei_outside.specs.Told.{Reads};
-ghost use Rattle.lei_outside.specs.Count.{Rose, counted};
+ghost use Rattle.lei_outside.specs.Count.{Rose, count_up};
 ghost use Rattle.lei_outside.specs.Memory.{SourceState, SureSourceState, FailsNext};
 
 use crate::calls::Calls;
@@ -139,10 +139,10 @@ impl Source for ByteSource {
         ensures size { IfOk result
             (λ n. n ≡ min (min self.old.most (length buffer.old)) (length self.old.left)) }
         ensures ok { IfOk result (λ n.
-            self.new ≡ record self.old { left = drop n self.old.left; calls = counted self.old.calls }) }
+            self.new ≡ record self.old { left = drop n self.old.left; calls = count_up self.old.calls }) }
         ensures behind { IfOk result (λ n. drop n buffer.new ≡ drop n buffer.old) }
         ensures err { OnErr result
-            (self.new ≡ record self.old { calls = counted self.old.calls; faults = counted self.old.faults }) }
+            (self.new ≡ record self.old { calls = count_up self.old.calls; faults = count_up self.old.faults }) }
         ensures untouched { OnErr result (buffer.new ≡ buffer.old) }
     {
         if self.calls.next_fails() {

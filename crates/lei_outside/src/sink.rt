@@ -22,12 +22,11 @@ pub trait Sink {
         ensures kept { ¬ (IsErrOf result SinkFault.Failed) → faults self.new ≡ faults self.old }
         ensures failed { IsErrOf result SinkFault.Failed → Rose (faults self.old) (faults self.new) };
 
-    /// Reports how far the work is whose output this sink takes: `done` parts of `all`. A sink that a person watches may
-    /// show it on another device. No byte is written to the sink, and a sink that nobody watches does nothing.
+    /// Reports the progress of the work whose output this sink takes: `done` parts of `all`. A sink that a person
+    /// watches may show it on another device. No byte is written to the sink. A sink that nobody watches does nothing.
     fn report_progress(&mut self, _done: u32, _all: u32)
         ensures same { self.new ≡ self.old }
-    {
-    }
+    {}
 }
 
 /// Writes the whole piece, in as many writes as the sink needs. After an `Err` some front of it was written.

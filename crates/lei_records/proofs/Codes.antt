@@ -8,7 +8,7 @@ use Rattle.std.proofs.lemmas.Bool.Decides.{nat_tests}
 use Rattle.std.proofs.lemmas.List.{get_or-take, get_or-drop, length-take, length-drop}
 use Rattle.std.proofs.lemmas.List.Folds.{list_all_at}
 use Rattle.lei_code.specs.Number.{number}
-use Rattle.lei_code.specs.Code.{character, may_stand, IsWellFormed, IsValid}
+use Rattle.lei_code.specs.Code.{character, may_be_at, IsWellFormed, IsValid}
 use Rattle.lei_shapes.specs.Shape.{is_code, is_capital_or_digit}
 
 -- if all pass, the one at an index passes
@@ -19,10 +19,10 @@ passes_at p xs i d all within =
       | false ↦ λ is. sym (list_all_at p xs i d within is) ∙ all
     ] refl
 
-letter_or_digit : (place c : ℕ) → place ≤ 18 → is_capital_or_digit c ≡ true → IsTrue (may_stand place c)
+letter_or_digit : (place c : ℕ) → place ≤ 18 → is_capital_or_digit c ≡ true → IsTrue (may_be_at place c)
 letter_or_digit place c bound is = grind (arith, nat_tests)
 
-digit : (place c : ℕ) → is_ascii_digit c ≡ true → IsTrue (may_stand place c)
+digit : (place c : ℕ) → is_ascii_digit c ≡ true → IsTrue (may_be_at place c)
 digit place c is = grind (arith, nat_tests)
 
 shape_parts : (text : List ℕ) → is_code text ≡ true → (length text ≡ 20) × (list_all is_capital_or_digit (take 18 text) ≡ true) × (list_all is_ascii_digit (drop 18 text) ≡ true)

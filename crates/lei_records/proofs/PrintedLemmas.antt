@@ -10,7 +10,7 @@ use Rattle.lei_records.specs.Fields.{row_len}
 use Rattle.lei_records.specs.Items.{row_text}
 use Rattle.lei_records.proofs.SheetLemmas.{Lent, printed_in, printed_in-more, printed_in-past}
 use Rattle.lei_shapes.specs.Moment.{read_moment}
-use Rattle.lei_records.specs.Parts.{AreRead}
+use Rattle.lei_records.specs.Parts.{MomentsAreRead}
 use Rattle.lei_records.specs.Places.{record_places}
 use Rattle.lei_records.specs.Rows.{Row, text_at}
 use Rattle.lei_records.specs.Spelled.{moment_in}
@@ -30,7 +30,7 @@ text_at-inside row place first =
     rw other refl
 
 -- the moment that is kept for a place is what the text there reads as
-pub read_at-place : (row : Row) (seen : Row) (moments : List (Option ℤ)) (place : ℕ) (d : Option ℤ) → seen ≡ row → AreRead row moments → 1 ≤ place → place ≤ length seen → place - 1 < length moments
+pub read_at-place : (row : Row) (seen : Row) (moments : List (Option ℤ)) (place : ℕ) (d : Option ℤ) → seen ≡ row → MomentsAreRead row moments → 1 ≤ place → place ≤ length seen → place - 1 < length moments
     → IfSome (get_or moments (place - 1) d) (λ moment. read_moment (text_at seen place) ≡ Some moment)
 read_at-place row seen moments place d same read first last within =
     found_by (text_at seen place) (get_or moments (place - 1) d)

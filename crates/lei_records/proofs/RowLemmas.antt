@@ -29,12 +29,12 @@ use Rattle.lei_records.specs.declared.readying.FieldCheck.{FieldCheck}
 use Rattle.lei_records.specs.declared.rules.Rules.{Rules}
 use Rattle.lei_records.specs.Cells.{has_no_event, successors_in}
 use Rattle.lei_records.specs.Checks.{FailedCheck}
-use Rattle.lei_records.specs.Fields.{Field, exception_fields, field_count, fields, fields_of, codes_in, fits_content, is_needed, may_stand, relation_fields, row_fields, row_len, successors_shape}
-use Rattle.lei_records.specs.Items.{facts_of, failed_check, failed_field, first_field, has_other_remainder, is_archival, is_field, is_withdrawal, item_of, row_text, miscoded_field, misshapen_field, missing_field, printed, readied, row_of, text_of, unknown_name}
-use Rattle.lei_records.specs.Names.{AreRising, names}
+use Rattle.lei_records.specs.Fields.{Field, exception_fields, field_count, fields, fields_of, codes_in, fits_content, is_needed, may_be_present, relation_fields, row_fields, row_len, successors_shape}
+use Rattle.lei_records.specs.Items.{facts_of, failed_check, failed_field, first_field, has_other_remainder, is_archival, is_field, says_withdraw, item_of, row_text, miscoded_field, misshapen_field, missing_field, text_in_row, readied_as, row_of, text_under, unknown_name}
+use Rattle.lei_records.specs.Names.{NamesRise, names_of_fields}
 use Rattle.lei_records.specs.Rows.{Row}
-use Rattle.lei_records.specs.Sheets.{field_fails, first_unknown, facts_at, failed_at, first_at, printed_at, readied_by, texts_of, withdraws_at}
-use Rattle.lei_records.specs.Spelled.{AreCodes, IsExceptionRow, IsListed, IsPrinted, IsRelationRow, IsRow, IsRowOf, is_absent, present}
+use Rattle.lei_records.specs.Sheets.{field_fails, first_unknown, facts_at, failed_at, first_at, printed_at, readied_by, texts_by_place, withdraws_at}
+use Rattle.lei_records.specs.Spelled.{AreCodes, IsExceptionRow, IsListedText, IsPrinted, IsRecordRow, IsRelationRow, IsRowOfKind, is_absent, present}
 use Rattle.lei_records.proofs.Codes.{IsValid-from_shape}
 use Rattle.lei_records.proofs.NameLemmas.{least-first, none_first_of}
 use Rattle.lei_records.proofs.SheetLemmas.{find-map, length-fields_of, map-map}
@@ -57,14 +57,14 @@ none_first true x rest none = cc
 none_first false x rest none = (refl, none)
 
 none_unknown : (rules : Rules) (kind : Kind) (pairs : List (List ℕ × List ℕ)) → unknown_name rules kind pairs ≡ None → first_unknown rules kind pairs ≡ None
-none_unknown rules kind pairs known = none_first_of (λ name. not (is_field rules kind name)) (names pairs) known
+none_unknown rules kind pairs known = none_first_of (λ name. not (is_field rules kind name)) (names_of_fields pairs) known
 
 -- if names rise, the first that isn't a field's is the least
-pub unknown_name-first : (rules : Rules) (kind : Kind) (pairs : List (List ℕ × List ℕ)) → AreRising pairs → unknown_name rules kind pairs ≡ first_unknown rules kind pairs
-unknown_name-first rules kind pairs rising = least-first (λ name. not (is_field rules kind name)) (names pairs) rising
+pub unknown_name-first : (rules : Rules) (kind : Kind) (pairs : List (List ℕ × List ℕ)) → NamesRise pairs → unknown_name rules kind pairs ≡ first_unknown rules kind pairs
+unknown_name-first rules kind pairs rising = least-first (λ name. not (is_field rules kind name)) (names_of_fields pairs) rising
 
 -- an item without an unknown name has no text under one
-not_sent : (rules : Rules) (kind : Kind) (name : List ℕ) (pairs : List (List ℕ × List ℕ)) → is_field rules kind name ≡ false → first_unknown rules kind pairs ≡ None → text_of pairs name ≡ []
+not_sent : (rules : Rules) (kind : Kind) (name : List ℕ) (pairs : List (List ℕ × List ℕ)) → is_field rules kind name ≡ false → first_unknown rules kind pairs ≡ None → text_under pairs name ≡ []
 not_sent rules kind name [] unknown known = refl
 not_sent rules kind name (p ∷ pairs) unknown known =
     let parts = none_first (not (is_field rules kind p.0)) p.0 (first_unknown rules kind pairs) known in
@@ -90,11 +90,11 @@ no_status : (rules : Rules) → is_field rules Kind.Exception (codes "Registrati
 unfolding exception_fields
 no_status rules = refl
 
-never_withdrawn : (rules : Rules) (kind : Kind) (pairs : List (List ℕ × List ℕ)) → is_field rules kind (codes "Action") ≡ false → first_unknown rules kind pairs ≡ None → false ≡ is_withdrawal pairs
+never_withdrawn : (rules : Rules) (kind : Kind) (pairs : List (List ℕ × List ℕ)) → is_field rules kind (codes "Action") ≡ false → first_unknown rules kind pairs ≡ None → false ≡ says_withdraw pairs
 never_withdrawn rules kind pairs none known = sym (ap (λ text. bytes_eq text (codes "WITHDRAW")) (not_sent rules kind (codes "Action") pairs none known))
 
 -- what the needs depend on, by place as by name
-facts_at-texts_of : (rules : Rules) (kind : Kind) (pairs : List (List ℕ × List ℕ)) → first_unknown rules kind pairs ≡ None → facts_at rules kind (texts_of kind pairs) ≡ facts_of rules pairs
+facts_at-texts_of : (rules : Rules) (kind : Kind) (pairs : List (List ℕ × List ℕ)) → first_unknown rules kind pairs ≡ None → facts_at rules kind (texts_by_place kind pairs) ≡ facts_of rules pairs
 unfolding fields relation_fields exception_fields
 facts_at-texts_of rules Kind.Record pairs known =
     let same = never_withdrawn rules Kind.Record pairs (no_action rules) known in
@@ -104,29 +104,29 @@ facts_at-texts_of rules Kind.Relation pairs known =
     λ i. record { rules = rules; archival = is_archival pairs; withdrawal = same i }
 facts_at-texts_of rules Kind.Exception pairs known =
     let same : false ≡ is_archival pairs = sym (ap (λ text. bytes_eq text (codes "PENDING_ARCHIVAL")) (not_sent rules Kind.Exception (codes "Registration.RegistrationStatus") pairs (no_status rules) known)) in
-    λ i. record { rules = rules; archival = same i; withdrawal = is_withdrawal pairs }
+    λ i. record { rules = rules; archival = same i; withdrawal = says_withdraw pairs }
 
 name_of_found : {Y : Type 0} (g : Field → Y) (found : Option Field) → option_map (λ (entry : Field × Y). entry.0.0) (option_map (λ field. (field, g field)) found) ≡ option_map (λ field. field.0) found
 name_of_found g None = refl
 name_of_found g (Some field) = refl
 
-pub first_at-texts_of : (rules : Rules) (check : FieldCheck) (kind : Kind) (pairs : List (List ℕ × List ℕ)) → first_unknown rules kind pairs ≡ None → first_at rules check kind (texts_of kind pairs) ≡ first_field (field_fails check (facts_of rules pairs)) kind pairs
+pub first_at-texts_of : (rules : Rules) (check : FieldCheck) (kind : Kind) (pairs : List (List ℕ × List ℕ)) → first_unknown rules kind pairs ≡ None → first_at rules check kind (texts_by_place kind pairs) ≡ first_field (field_fails check (facts_of rules pairs)) kind pairs
 unfolding first_at
 first_at-texts_of rules check kind pairs known =
-    let text : Field → List ℕ = λ field. text_of pairs field.0 in
+    let text : Field → List ℕ = λ field. text_under pairs field.0 in
     let asks : Facts → Field × List ℕ → Bool = λ facts entry. field_fails check facts entry.0 entry.1 in
-    ap (λ facts. option_map (λ entry. entry.0.0) (find (asks facts) (zip (fields_of kind) (texts_of kind pairs)))) (facts_at-texts_of rules kind pairs known)
+    ap (λ facts. option_map (λ entry. entry.0.0) (find (asks facts) (zip (fields_of kind) (texts_by_place kind pairs)))) (facts_at-texts_of rules kind pairs known)
     ∙ (ap (λ l. option_map (λ entry. entry.0.0) (find (asks (facts_of rules pairs)) l)) (zip-self text (fields_of kind))
     ∙ (ap (option_map (λ entry. entry.0.0)) (find-map (asks (facts_of rules pairs)) (λ field. (field, text field)) (fields_of kind))
     ∙ name_of_found text (find (λ field. field_fails check (facts_of rules pairs) field (text field)) (fields_of kind))))
 
-pub printed_at-texts_of : (kind : Kind) (pairs : List (List ℕ × List ℕ)) → printed_at kind (texts_of kind pairs) ≡ row_of kind pairs
+pub printed_at-texts_of : (kind : Kind) (pairs : List (List ℕ × List ℕ)) → printed_at kind (texts_by_place kind pairs) ≡ row_of kind pairs
 unfolding printed_at row_of
 printed_at-texts_of kind pairs =
     let make : Field × List ℕ → List ℕ = λ entry. row_text entry.0.1 entry.1 in
-    ap (map make) (zip-front (λ field. text_of pairs field.0) (row_len kind) (fields_of kind)) ∙ map-map make (λ field. (field, text_of pairs field.0)) (row_fields kind)
+    ap (map make) (zip-front (λ field. text_under pairs field.0) (row_len kind) (fields_of kind)) ∙ map-map make (λ field. (field, text_under pairs field.0)) (row_fields kind)
 
-pub failed_at-texts_of : (rules : Rules) (kind : Kind) (pairs : List (List ℕ × List ℕ)) → unknown_name rules kind pairs ≡ None → failed_check rules kind pairs ≡ failed_at rules kind (texts_of kind pairs)
+pub failed_at-texts_of : (rules : Rules) (kind : Kind) (pairs : List (List ℕ × List ℕ)) → unknown_name rules kind pairs ≡ None → failed_check rules kind pairs ≡ failed_at rules kind (texts_by_place kind pairs)
 unfolding failed_check failed_at
 failed_at-texts_of rules kind pairs known =
     let first = none_unknown rules kind pairs known in
@@ -239,9 +239,9 @@ printed_moment text form (Some s) told fits is =
     (s, ap read_moment is ∙ read_moment-text s (is_moment-read text s told), is)
 
 -- a moment that is present, in printed form
-moment_stands : (text : List ℕ) (may : Bool) → is_absent text ≡ false → not (is_absent text) && not (is_some (read_moment text) && may) ≡ false → IsPrinted (printed Shape.Moment text)
+moment_stands : (text : List ℕ) (may : Bool) → is_absent text ≡ false → not (is_absent text) && not (is_some (read_moment text) && may) ≡ false → IsPrinted (text_in_row Shape.Moment text)
 moment_stands text may stands shape =
-    printed_moment text (printed Shape.Moment text) (read_moment text) refl (fit (is_absent text) (is_some (read_moment text)) may stands shape)
+    printed_moment text (text_in_row Shape.Moment text) (read_moment text) refl (fit (is_absent text) (is_some (read_moment text)) may stands shape)
     (ap (λ b. cond b text (unwrap_or (option_map moment_text (read_moment text)) text)) stands)
 
 if_present : (P : List ℕ → Type 0) (text : List ℕ) → (is_absent text ≡ false → P text) → IfSome (present text) P
@@ -252,7 +252,7 @@ if_present P text holds =
     ] refl
 
 -- an absent moment stays absent
-absent_stays : (text : List ℕ) → is_absent (printed Shape.Moment text) ≡ false → is_absent text ≡ false
+absent_stays : (text : List ℕ) → is_absent (text_in_row Shape.Moment text) ≡ false → is_absent text ≡ false
 absent_stays text stands =
     elim (is_absent text) as (λ b. is_absent text ≡ b → is_absent (cond b text (unwrap_or (option_map moment_text (read_moment text)) text)) ≡ false → b ≡ false) [
       | true ↦ λ is other. absurd (false≢true (sym other ∙ is))
@@ -260,7 +260,7 @@ absent_stays text stands =
     ] refl stands
 
 same_at : {rules : Rules} (kind : Kind) (texts : Row) → Passed rules kind texts → (k : ℕ) → k < row_len kind → (shape : Shape) → (field_at kind k).1 ≡ Content.Shaped shape
-    → get_or (printed_at kind texts) k [] ≡ printed shape (sent texts k)
+    → get_or (printed_at kind texts) k [] ≡ text_in_row shape (sent texts k)
 same_at kind texts passed k bound shape is = row_at kind texts passed.len k bound ∙ ap (λ content. row_text content (sent texts k)) is
 
 stands_at : {rules : Rules} (kind : Kind) (texts : Row) → Passed rules kind texts → (k : ℕ) → k < row_len kind → (field_at kind k).2 ≡ Need.Always → is_absent (sent texts k) ≡ false
@@ -268,20 +268,20 @@ stands_at {rules} kind texts passed k bound is =
     let P : Need → Type 0 = λ need. is_needed (facts_at rules kind texts) need && is_absent (sent texts k) ≡ false in subst P is (passed.presence k (row-within kind k bound))
 
 shaped_at : {rules : Rules} (kind : Kind) (texts : Row) → Passed rules kind texts → (k : ℕ) → k < row_len kind → (shape : Shape) → (field_at kind k).1 ≡ Content.Shaped shape
-    → not (is_absent (sent texts k)) && not (fits_shape shape (sent texts k) && may_stand (facts_at rules kind texts) (field_at kind k).2) ≡ false
+    → not (is_absent (sent texts k)) && not (fits_shape shape (sent texts k) && may_be_present (facts_at rules kind texts) (field_at kind k).2) ≡ false
 shaped_at {rules} kind texts passed k bound shape is =
-    let P : Content → Type 0 = λ content. not (is_absent (sent texts k)) && not (fits_content rules content (sent texts k) && may_stand (facts_at rules kind texts) (field_at kind k).2) ≡ false in
+    let P : Content → Type 0 = λ content. not (is_absent (sent texts k)) && not (fits_content rules content (sent texts k) && may_be_present (facts_at rules kind texts) (field_at kind k).2) ≡ false in
     subst P is (passed.shape k (row-within kind k bound))
 
 fits_at : {rules : Rules} (kind : Kind) (texts : Row) → Passed rules kind texts → (k : ℕ) → k < row_len kind → (shape : Shape) → (field_at kind k).1 ≡ Content.Shaped shape → is_absent (sent texts k) ≡ false → fits_shape shape (sent texts k) ≡ true
 fits_at {rules} kind texts passed k bound shape is stands =
-    fit (is_absent (sent texts k)) (fits_shape shape (sent texts k)) (may_stand (facts_at rules kind texts) (field_at kind k).2) stands (shaped_at kind texts passed k bound shape is)
+    fit (is_absent (sent texts k)) (fits_shape shape (sent texts k)) (may_be_present (facts_at rules kind texts) (field_at kind k).2) stands (shaped_at kind texts passed k bound shape is)
 
 code_at : {rules : Rules} (kind : Kind) (texts : Row) → Passed rules kind texts → (k : ℕ) → k < row_len kind → (field_at kind k).1 ≡ Content.Shaped Shape.Code → is_absent (sent texts k) ≡ false → IsValid (get_or (printed_at kind texts) k [])
 code_at {rules} kind texts passed k bound is stands =
     let P : Content → Type 0 = λ content. list_any has_other_remainder (codes_in content (sent texts k)) ≡ false in
     subst IsValid (sym (same_at kind texts passed k bound Shape.Code is))
-    (valid_code (sent texts k) (may_stand (facts_at rules kind texts) (field_at kind k).2) stands (shaped_at kind texts passed k bound Shape.Code is) (subst P is (passed.digits k (row-within kind k bound))))
+    (valid_code (sent texts k) (may_be_present (facts_at rules kind texts) (field_at kind k).2) stands (shaped_at kind texts passed k bound Shape.Code is) (subst P is (passed.digits k (row-within kind k bound))))
 
 code_if_present : {rules : Rules} (kind : Kind) (texts : Row) → Passed rules kind texts → (k : ℕ) → k < row_len kind → (field_at kind k).1 ≡ Content.Shaped Shape.Code → IfSome (present (get_or (printed_at kind texts) k [])) IsValid
 code_if_present kind texts passed k bound is =
@@ -290,7 +290,7 @@ code_if_present kind texts passed k bound is =
 moment_at : {rules : Rules} (kind : Kind) (texts : Row) → Passed rules kind texts → (k : ℕ) → k < row_len kind → (field_at kind k).1 ≡ Content.Shaped Shape.Moment → is_absent (sent texts k) ≡ false → IsPrinted (get_or (printed_at kind texts) k [])
 moment_at {rules} kind texts passed k bound is stands =
     subst IsPrinted (sym (same_at kind texts passed k bound Shape.Moment is))
-    (moment_stands (sent texts k) (may_stand (facts_at rules kind texts) (field_at kind k).2) stands (shaped_at kind texts passed k bound Shape.Moment is))
+    (moment_stands (sent texts k) (may_be_present (facts_at rules kind texts) (field_at kind k).2) stands (shaped_at kind texts passed k bound Shape.Moment is))
 
 moment_if_present : {rules : Rules} (kind : Kind) (texts : Row) → Passed rules kind texts → (k : ℕ) → k < row_len kind → (field_at kind k).1 ≡ Content.Shaped Shape.Moment → IfSome (present (get_or (printed_at kind texts) k [])) IsPrinted
 moment_if_present kind texts passed k bound is =
@@ -309,12 +309,12 @@ always_fits kind texts passed k bound shape is needed = fits_at kind texts passe
 
 -- a value of a list, if it is present
 listed_if_present : {rules : Rules} {V : Type 0} (kind : Kind) (texts : Row) → Passed rules kind texts → (k : ℕ) → k < row_len kind → (shape : Shape) (value_of : List ℕ → Option V)
-    → (field_at kind k).1 ≡ Content.Shaped shape → ((text : List ℕ) → printed shape text ≡ text) → ((text : List ℕ) → fits_shape shape text ≡ true → IsListed value_of text)
-    → IfSome (present (get_or (printed_at kind texts) k [])) (IsListed value_of)
+    → (field_at kind k).1 ≡ Content.Shaped shape → ((text : List ℕ) → text_in_row shape text ≡ text) → ((text : List ℕ) → fits_shape shape text ≡ true → IsListedText value_of text)
+    → IfSome (present (get_or (printed_at kind texts) k [])) (IsListedText value_of)
 listed_if_present kind texts passed k bound shape value_of is kept listed =
     let same = same_at kind texts passed k bound shape is ∙ kept (sent texts k) in
-    if_present (IsListed value_of) (get_or (printed_at kind texts) k [])
-    (λ stands. subst (IsListed value_of) (sym same) (listed (sent texts k) (fits_at kind texts passed k bound shape is (ap is_absent (sym same) ∙ stands))))
+    if_present (IsListedText value_of) (get_or (printed_at kind texts) k [])
+    (λ stands. subst (IsListedText value_of) (sym same) (listed (sent texts k) (fits_at kind texts passed k bound shape is (ap is_absent (sym same) ∙ stands))))
 
 least : (kind : Kind) → min (row_len kind) (field_count kind) ≡ row_len kind
 least Kind.Record = refl
@@ -337,23 +337,23 @@ successors_if_present {rules} texts passed =
     if_present AreCodes (get_or (printed_at r texts) 20 [])
     (λ stands. subst AreCodes (sym same)
     (AreCodes-from_shape rules sent_one
-    (fit (is_absent sent_one) (fits_shape (successors_shape rules) sent_one) (may_stand (facts_at rules r texts) Need.Optional) (ap is_absent (sym same) ∙ stands) (passed.shape 20 (lit< tt)))
+    (fit (is_absent sent_one) (fits_shape (successors_shape rules) sent_one) (may_be_present (facts_at rules r texts) Need.Optional) (ap is_absent (sym same) ∙ stands) (passed.shape 20 (lit< tt)))
     (passed.digits 20 (lit< tt))))
 
-rowed : {rules : Rules} (texts : Row) → Passed rules Kind.Record texts → IsRow (printed_at Kind.Record texts)
+rowed : {rules : Rules} (texts : Row) → Passed rules Kind.Record texts → IsRecordRow (printed_at Kind.Record texts)
 unfolding fields
 rowed texts passed =
     let r = Kind.Record in
     record {
       places = length-printed_at r texts passed.len;
       lei = always_code r texts passed 0 (lit< tt) refl refl;
-      category = subst (IsListed category_of) (sym (same_at r texts passed 16 (lit< tt) Shape.Category refl)) (always_fits r texts passed 16 (lit< tt) Shape.Category refl refl);
-      entity_status = subst (IsListed entity_status_of) (sym (same_at r texts passed 18 (lit< tt) Shape.EntityStatus refl)) (always_fits r texts passed 18 (lit< tt) Shape.EntityStatus refl refl);
+      category = subst (IsListedText category_of) (sym (same_at r texts passed 16 (lit< tt) Shape.Category refl)) (always_fits r texts passed 16 (lit< tt) Shape.Category refl refl);
+      entity_status = subst (IsListedText entity_status_of) (sym (same_at r texts passed 18 (lit< tt) Shape.EntityStatus refl)) (always_fits r texts passed 18 (lit< tt) Shape.EntityStatus refl refl);
       created = moment_if_present r texts passed 19 (lit< tt) refl;
       successors = successors_if_present texts passed;
       initial = always_moment r texts passed 21 (lit< tt) refl refl;
       updated = always_moment r texts passed 22 (lit< tt) refl refl;
-      status = subst (IsListed record_status_of) (sym (same_at r texts passed 23 (lit< tt) Shape.RecordStatus refl)) (always_fits r texts passed 23 (lit< tt) Shape.RecordStatus refl refl);
+      status = subst (IsListedText record_status_of) (sym (same_at r texts passed 23 (lit< tt) Shape.RecordStatus refl)) (always_fits r texts passed 23 (lit< tt) Shape.RecordStatus refl refl);
       renewal = always_moment r texts passed 24 (lit< tt) refl refl;
       manager = always_code r texts passed 25 (lit< tt) refl refl;
       transfer_to = code_if_present r texts passed 27 (lit< tt) refl;
@@ -370,14 +370,14 @@ relation_rowed texts passed =
     record {
       places = length-printed_at r texts passed.len;
       start = always_code r texts passed 0 (lit< tt) refl refl;
-      kind = subst (IsListed relation_type_of) (sym (same_at r texts passed 1 (lit< tt) Shape.RelationType refl)) (always_fits r texts passed 1 (lit< tt) Shape.RelationType refl refl);
+      kind = subst (IsListedText relation_type_of) (sym (same_at r texts passed 1 (lit< tt) Shape.RelationType refl)) (always_fits r texts passed 1 (lit< tt) Shape.RelationType refl refl);
       end = always_code r texts passed 2 (lit< tt) refl refl;
-      status = subst (IsListed relation_status_of) (sym (same_at r texts passed 3 (lit< tt) Shape.RelationStatus refl)) (always_fits r texts passed 3 (lit< tt) Shape.RelationStatus refl refl);
+      status = subst (IsListedText relation_status_of) (sym (same_at r texts passed 3 (lit< tt) Shape.RelationStatus refl)) (always_fits r texts passed 3 (lit< tt) Shape.RelationStatus refl refl);
       started = always_moment r texts passed 4 (lit< tt) refl refl;
       ended = moment_if_present r texts passed 5 (lit< tt) refl;
       initial = always_moment r texts passed 6 (lit< tt) refl refl;
       updated = always_moment r texts passed 7 (lit< tt) refl refl;
-      registration = subst (IsListed relation_registration_of) (sym (same_at r texts passed 8 (lit< tt) Shape.RelationRegistration refl)) (always_fits r texts passed 8 (lit< tt) Shape.RelationRegistration refl refl);
+      registration = subst (IsListedText relation_registration_of) (sym (same_at r texts passed 8 (lit< tt) Shape.RelationRegistration refl)) (always_fits r texts passed 8 (lit< tt) Shape.RelationRegistration refl refl);
       manager = always_code r texts passed 9 (lit< tt) refl refl;
     }
 
@@ -388,11 +388,11 @@ exception_rowed texts passed =
     record {
       places = length-printed_at r texts passed.len;
       lei = always_code r texts passed 0 (lit< tt) refl refl;
-      category = subst (IsListed exception_category_of) (sym (same_at r texts passed 1 (lit< tt) Shape.ExceptionCategory refl)) (always_fits r texts passed 1 (lit< tt) Shape.ExceptionCategory refl refl);
+      category = subst (IsListedText exception_category_of) (sym (same_at r texts passed 1 (lit< tt) Shape.ExceptionCategory refl)) (always_fits r texts passed 1 (lit< tt) Shape.ExceptionCategory refl refl);
       reason = listed_if_present r texts passed 2 (lit< tt) Shape.Reason reason_of refl (λ text. refl) (λ text fits. fits);
     }
 
-rowed_as : {rules : Rules} (kind : Kind) (texts : Row) → Passed rules kind texts → IsRowOf kind (printed_at kind texts)
+rowed_as : {rules : Rules} (kind : Kind) (texts : Row) → Passed rules kind texts → IsRowOfKind kind (printed_at kind texts)
 rowed_as Kind.Record = rowed
 rowed_as Kind.Relation = relation_rowed
 rowed_as Kind.Exception = exception_rowed
@@ -408,9 +408,9 @@ passes rules kind texts len presence shape digits = record {
 }
 
 -- texts that pass the checks are a row
-pub IsRowOf-printed_at : (rules : Rules) (kind : Kind) (texts : Row) → length texts ≡ field_count kind → first_at rules FieldCheck.Presence kind texts ≡ None → first_at rules FieldCheck.Shape kind texts ≡ None → first_at rules FieldCheck.Digits kind texts ≡ None
-    → IsRowOf kind (printed_at kind texts)
-IsRowOf-printed_at rules kind texts len presence shape digits = rowed_as kind texts (passes rules kind texts len presence shape digits)
+pub IsRowOfKind-printed_at : (rules : Rules) (kind : Kind) (texts : Row) → length texts ≡ field_count kind → first_at rules FieldCheck.Presence kind texts ≡ None → first_at rules FieldCheck.Shape kind texts ≡ None → first_at rules FieldCheck.Digits kind texts ≡ None
+    → IsRowOfKind kind (printed_at kind texts)
+IsRowOfKind-printed_at rules kind texts len presence shape digits = rowed_as kind texts (passes rules kind texts len presence shape digits)
 
 none_failed : {X Y : Type 0} (a b c d : Option X) (f g h k : X → Y) → option_or (option_map f a) (option_or (option_map g b) (option_or (option_map h c) (option_map k d))) ≡ None
     → (a ≡ None) × (b ≡ None) × (c ≡ None) × (d ≡ None)
@@ -420,29 +420,29 @@ none_failed None None (Some x) d f g h k is = cc
 none_failed None (Some x) c d f g h k is = cc
 none_failed (Some x) b c d f g h k is = cc
 
-length-texts_of : (kind : Kind) (pairs : List (List ℕ × List ℕ)) → length (texts_of kind pairs) ≡ field_count kind
-length-texts_of kind pairs = length-map (fields_of kind) (λ field. text_of pairs field.0) ∙ length-fields_of kind
+length-texts_of : (kind : Kind) (pairs : List (List ℕ × List ℕ)) → length (texts_by_place kind pairs) ≡ field_count kind
+length-texts_of kind pairs = length-map (fields_of kind) (λ field. text_under pairs field.0) ∙ length-fields_of kind
 
 -- an item that passes its checks has texts that pass them by place
-passed_of : (rules : Rules) (kind : Kind) (pairs : List (List ℕ × List ℕ)) → failed_check rules kind pairs ≡ None → Passed rules kind (texts_of kind pairs)
+passed_of : (rules : Rules) (kind : Kind) (pairs : List (List ℕ × List ℕ)) → failed_check rules kind pairs ≡ None → Passed rules kind (texts_by_place kind pairs)
 unfolding failed_check
 passed_of rules kind pairs is =
     let none = none_failed (unknown_name rules kind pairs) (missing_field rules kind pairs) (misshapen_field rules kind pairs) (miscoded_field kind pairs) (failed_field 1) (failed_field 2) (failed_field 3) (failed_field 4) is in
     let first = none_unknown rules kind pairs none.0 in
-    passes rules kind (texts_of kind pairs) (length-texts_of kind pairs)
+    passes rules kind (texts_by_place kind pairs) (length-texts_of kind pairs)
     (first_at-texts_of rules FieldCheck.Presence kind pairs first ∙ none.1) (first_at-texts_of rules FieldCheck.Shape kind pairs first ∙ none.2) (first_at-texts_of rules FieldCheck.Digits kind pairs first ∙ none.3)
 
 -- an item that passes its checks has the row of an item of its kind
-pub IsRowOf-row_of : (rules : Rules) (kind : Kind) (pairs : List (List ℕ × List ℕ)) → failed_check rules kind pairs ≡ None → IsRowOf kind (row_of kind pairs)
-IsRowOf-row_of rules kind pairs is =
-    subst (IsRowOf kind) (printed_at-texts_of kind pairs) (rowed_as kind (texts_of kind pairs) (passed_of rules kind pairs is))
+pub IsRowOfKind-row_of : (rules : Rules) (kind : Kind) (pairs : List (List ℕ × List ℕ)) → failed_check rules kind pairs ≡ None → IsRowOfKind kind (row_of kind pairs)
+IsRowOfKind-row_of rules kind pairs is =
+    subst (IsRowOfKind kind) (printed_at-texts_of kind pairs) (rowed_as kind (texts_by_place kind pairs) (passed_of rules kind pairs is))
 
 -- a record that passes its checks by the first rules names at most one successor
 pub one_named : (pairs : List (List ℕ × List ℕ)) → failed_check Rules.First Kind.Record pairs ≡ None → length (successors_in (row_of Kind.Record pairs)) ≤ 1
 unfolding fields successors_in
 one_named pairs is =
     let r = Kind.Record in
-    let texts = texts_of r pairs in
+    let texts = texts_by_place r pairs in
     let passed = passed_of Rules.First r pairs is in
     let text = sent texts 20 in
     let same : get_or (row_of r pairs) 20 [] ≡ text = ap (λ row. get_or row 20 []) (sym (printed_at-texts_of r pairs)) ∙ row_at r texts passed.len 20 (lit< tt) in
@@ -451,7 +451,7 @@ one_named pairs is =
       | true ↦ λ absent. omega arith
       | false ↦ λ stands.
           subst (λ (named : List (List ℕ)). length named ≤ 1)
-          (sym (one_code text (fit (is_absent text) (is_code text) (may_stand (facts_at Rules.First r texts) Need.Optional) stands (passed.shape 20 (lit< tt)))))
+          (sym (one_code text (fit (is_absent text) (is_code text) (may_be_present (facts_at Rules.First r texts) Need.Optional) stands (passed.shape 20 (lit< tt)))))
           (omega arith)
     ] refl)
 
@@ -472,29 +472,29 @@ no_event rules of_type of_effective of_recorded of_status pairs is =
       not_sent rules r (codes "Entity.Event.1.Status") pairs of_status known,
     ) refl
 
-withdraws_at-texts_of : (rules : Rules) (kind : Kind) (pairs : List (List ℕ × List ℕ)) → first_unknown rules kind pairs ≡ None → withdraws_at kind (texts_of kind pairs) ≡ is_withdrawal pairs
+withdraws_at-texts_of : (rules : Rules) (kind : Kind) (pairs : List (List ℕ × List ℕ)) → first_unknown rules kind pairs ≡ None → withdraws_at kind (texts_by_place kind pairs) ≡ says_withdraw pairs
 unfolding fields relation_fields exception_fields
 withdraws_at-texts_of rules Kind.Record pairs known = never_withdrawn rules Kind.Record pairs (no_action rules) known
 withdraws_at-texts_of rules Kind.Relation pairs known = never_withdrawn rules Kind.Relation pairs (no_action_either rules) known
 withdraws_at-texts_of rules Kind.Exception pairs known = refl
 
-readied_same : (rules : Rules) (kind : Kind) (pairs : List (List ℕ × List ℕ)) (failed : Option FailedCheck) → first_unknown rules kind pairs ≡ None → readied_by kind (texts_of kind pairs) failed ≡ readied kind pairs failed
+readied_same : (rules : Rules) (kind : Kind) (pairs : List (List ℕ × List ℕ)) (failed : Option FailedCheck) → first_unknown rules kind pairs ≡ None → readied_by kind (texts_by_place kind pairs) failed ≡ readied_as kind pairs failed
 readied_same rules kind pairs None known =
-    ap (λ row. Readied.Good (item_of kind (withdraws_at kind (texts_of kind pairs)) row)) (printed_at-texts_of kind pairs)
+    ap (λ row. Readied.Good (item_of kind (withdraws_at kind (texts_by_place kind pairs)) row)) (printed_at-texts_of kind pairs)
     ∙ ap (λ withdraws. Readied.Good (item_of kind withdraws (row_of kind pairs))) (withdraws_at-texts_of rules kind pairs known)
 readied_same rules kind pairs (Some check) known = refl
 
 -- the checks by place have the same result as the item's checks
-pub readied-by_place : {E : Type 0} (rules : Rules) (kind : Kind) (pairs : List (List ℕ × List ℕ)) (texts : Row) (r : Result Readied E) → unknown_name rules kind pairs ≡ None → texts ≡ texts_of kind pairs
-    → IfOk r (λ item. item ≡ readied_by kind texts (failed_at rules kind texts)) → IfOk r (λ item. item ≡ readied kind pairs (failed_check rules kind pairs))
-readied-by_place rules kind pairs texts (Ok item) known same is =
+pub readied_as-by_place : {E : Type 0} (rules : Rules) (kind : Kind) (pairs : List (List ℕ × List ℕ)) (texts : Row) (r : Result Readied E) → unknown_name rules kind pairs ≡ None → texts ≡ texts_by_place kind pairs
+    → IfOk r (λ item. item ≡ readied_by kind texts (failed_at rules kind texts)) → IfOk r (λ item. item ≡ readied_as kind pairs (failed_check rules kind pairs))
+readied_as-by_place rules kind pairs texts (Ok item) known same is =
     is ∙ (ap (λ t. readied_by kind t (failed_at rules kind t)) same
-    ∙ (readied_same rules kind pairs (failed_at rules kind (texts_of kind pairs)) (none_unknown rules kind pairs known) ∙ ap (readied kind pairs) (sym (failed_at-texts_of rules kind pairs known))))
-readied-by_place rules kind pairs texts (Err e) known same is = tt
+    ∙ (readied_same rules kind pairs (failed_at rules kind (texts_by_place kind pairs)) (none_unknown rules kind pairs known) ∙ ap (readied_as kind pairs) (sym (failed_at-texts_of rules kind pairs known))))
+readied_as-by_place rules kind pairs texts (Err e) known same is = tt
 
 -- an unknown name is reported before anything else
 pub bad_by_name : {E : Type 0} (rules : Rules) (kind : Kind) (pairs : List (List ℕ × List ℕ)) (name : List ℕ) (r : Result Readied E) → unknown_name rules kind pairs ≡ Some name
-    → IfOk r (λ item. item ≡ Readied.Bad (failed_field 1 name)) → IfOk r (λ item. item ≡ readied kind pairs (failed_check rules kind pairs))
+    → IfOk r (λ item. item ≡ Readied.Bad (failed_field 1 name)) → IfOk r (λ item. item ≡ readied_as kind pairs (failed_check rules kind pairs))
 unfolding failed_check
 bad_by_name rules kind pairs name (Ok item) unknown is = rw unknown is
 bad_by_name rules kind pairs name (Err e) unknown is = tt

@@ -18,10 +18,10 @@ use Rattle.lei_records.specs.declared.fields.Need.{Need}
 use Rattle.lei_records.specs.declared.readying.FieldCheck.{FieldCheck}
 use Rattle.lei_records.specs.declared.rules.Rules.{Rules}
 use Rattle.lei_records.specs.Fields.{Field, field_count, fields, fields_of, exception_fields, known_count, known_fields, names_of, read_field, relation_fields, row_fields, row_len}
-use Rattle.lei_records.specs.Items.{is_field, row_text, text_of}
+use Rattle.lei_records.specs.Items.{is_field, row_text, text_under}
 use Rattle.lei_records.specs.Places.{record_places}
 use Rattle.lei_records.specs.Rows.{Row}
-use Rattle.lei_records.specs.Sheets.{facts_at, field_fails, first_at, first_unknown, has_field, printed_at, read_texts, texts_of}
+use Rattle.lei_records.specs.Sheets.{facts_at, field_fails, first_at, first_unknown, has_field, printed_at, read_texts, texts_by_place}
 
 -- the table as the code borrows it
 abbrev pub Lent : Type 0
@@ -133,25 +133,25 @@ touched name text others (n ∷ ns) (suc k) apart within is =
     let other : bytes_eq n name ≡ false = apart_turned name n (ap (λ m. bytes_eq m n) (sym is) ∙ at) in
     rw other (ap (λ ts. without others n ∷ ts) (touched name text others ns k parts.1 (omega arith) is))
 
-texts_by_name : (pairs : List (List ℕ × List ℕ)) (fs : List (Field)) → map (λ field. text_of pairs field.0) fs ≡ map (text_of pairs) (map (λ field. field.0) fs)
+texts_by_name : (pairs : List (List ℕ × List ℕ)) (fs : List (Field)) → map (λ field. text_under pairs field.0) fs ≡ map (text_under pairs) (map (λ field. field.0) fs)
 texts_by_name pairs [] = refl
-texts_by_name pairs (f ∷ fs) = ap (λ ts. text_of pairs f.0 ∷ ts) (texts_by_name pairs fs)
+texts_by_name pairs (f ∷ fs) = ap (λ ts. text_under pairs f.0 ∷ ts) (texts_by_name pairs fs)
 
 any_by_name : (name : List ℕ) (fs : List (Field)) → list_any (λ field. bytes_eq field.0 name) fs ≡ list_any (λ n. bytes_eq n name) (map (λ field. field.0) fs)
 any_by_name name [] = refl
 any_by_name name (f ∷ fs) = ap (λ b. bytes_eq f.0 name || b) (any_by_name name fs)
 
 -- a known name's text goes to its place
-pub texts_of-known : (kind : Kind) (name text : List ℕ) (rest : List (List ℕ × List ℕ)) (k : ℕ) → k < field_count kind → get_or (names_of kind) k name ≡ name
-    → texts_of kind ((name, text) ∷ rest) ≡ set (texts_of kind rest) k text
-texts_of-known kind name text rest k within is =
+pub texts_by_place-known : (kind : Kind) (name text : List ℕ) (rest : List (List ℕ × List ℕ)) (k : ℕ) → k < field_count kind → get_or (names_of kind) k name ≡ name
+    → texts_by_place kind ((name, text) ∷ rest) ≡ set (texts_by_place kind rest) k text
+texts_by_place-known kind name text rest k within is =
     texts_by_name ((name, text) ∷ rest) (fields_of kind)
     ∙ (touched name text (λ n. lookup (bytes_eq n) rest) (names_of kind) k (fields_apart kind) (rw (length-names_of kind) within) is
     ∙ ap (λ ts. set ts k text) (sym (texts_by_name rest (fields_of kind))))
 
 -- an unknown name's text goes nowhere
-pub texts_of-unknown : (kind : Kind) (name text : List ℕ) (rest : List (List ℕ × List ℕ)) → has_field kind name ≡ false → texts_of kind ((name, text) ∷ rest) ≡ texts_of kind rest
-texts_of-unknown kind name text rest unknown =
+pub texts_by_place-unknown : (kind : Kind) (name text : List ℕ) (rest : List (List ℕ × List ℕ)) → has_field kind name ≡ false → texts_by_place kind ((name, text) ∷ rest) ≡ texts_by_place kind rest
+texts_by_place-unknown kind name text rest unknown =
     texts_by_name ((name, text) ∷ rest) (fields_of kind)
     ∙ (untouched name text (λ n. lookup (bytes_eq n) rest) (names_of kind) (sym (any_by_name name (fields_of kind)) ∙ unknown)
     ∙ sym (texts_by_name rest (fields_of kind)))
@@ -209,12 +209,12 @@ pub first_unknown-unknown : (rules : Rules) (kind : Kind) (name text : List ℕ)
 first_unknown-unknown rules kind name text rest unknown = rw unknown refl
 
 -- without a pair there is no text
-pub texts_of-none : (kind : Kind)
-    → take (field_count kind) ([] ∷ [] ∷ [] ∷ [] ∷ [] ∷ [] ∷ [] ∷ [] ∷ [] ∷ [] ∷ [] ∷ [] ∷ [] ∷ [] ∷ [] ∷ [] ∷ [] ∷ [] ∷ [] ∷ [] ∷ [] ∷ [] ∷ [] ∷ [] ∷ [] ∷ [] ∷ [] ∷ [] ∷ [] ∷ [] ∷ [] ∷ [] ∷ []) ≡ texts_of kind []
+pub texts_by_place-none : (kind : Kind)
+    → take (field_count kind) ([] ∷ [] ∷ [] ∷ [] ∷ [] ∷ [] ∷ [] ∷ [] ∷ [] ∷ [] ∷ [] ∷ [] ∷ [] ∷ [] ∷ [] ∷ [] ∷ [] ∷ [] ∷ [] ∷ [] ∷ [] ∷ [] ∷ [] ∷ [] ∷ [] ∷ [] ∷ [] ∷ [] ∷ [] ∷ [] ∷ [] ∷ [] ∷ []) ≡ texts_by_place kind []
 unfolding fields relation_fields exception_fields
-texts_of-none Kind.Record = refl
-texts_of-none Kind.Relation = refl
-texts_of-none Kind.Exception = refl
+texts_by_place-none Kind.Record = refl
+texts_by_place-none Kind.Relation = refl
+texts_by_place-none Kind.Exception = refl
 
 -- the pair before an index, and those from the index on
 drop_before : (pairs : List (List ℕ × List ℕ)) (i : ℕ) (p : List ℕ × List ℕ) → 0 < i → i ≤ length pairs → p ≡ get_or pairs (i - 1) p → drop (i - 1) pairs ≡ p ∷ drop i pairs
@@ -224,19 +224,19 @@ drop_before pairs i p low high is =
 
 pub placed_known : (kind : Kind) (pairs : List (List ℕ × List ℕ)) (i : ℕ) (p : List ℕ × List ℕ) (name : List ℕ) (k : ℕ) (text : Bor (List ℕ)) (texts : List (Bor (List ℕ)))
     → 0 < i → i ≤ length pairs → p ≡ get_or pairs (i - 1) p → name ≡ p.0 → text.now ≡ p.1 → k < field_count kind → get_or (names_of kind) k name ≡ name
-    → take (field_count kind) (read_texts texts) ≡ texts_of kind (drop i pairs) → take (field_count kind) (read_texts (set texts k text)) ≡ texts_of kind (drop (i - 1) pairs)
+    → take (field_count kind) (read_texts texts) ≡ texts_by_place kind (drop i pairs) → take (field_count kind) (read_texts (set texts k text)) ≡ texts_by_place kind (drop (i - 1) pairs)
 placed_known kind pairs i p name k text texts low high is is_name is_text within at sofar =
     let P : List ℕ → Type 0 = λ n. get_or (names_of kind) k n ≡ n in
     ap (take (field_count kind)) (map-set (λ t. t.now) texts k text)
     ∙ (take-set-lt (field_count kind) (read_texts texts) k text.now within
     ∙ (ap (λ t. set (take (field_count kind) (read_texts texts)) k t) is_text ∙ (ap (λ ts. set ts k p.1) sofar
-    ∙ (sym (texts_of-known kind p.0 p.1 (drop i pairs) k within (subst P is_name at)) ∙ ap (texts_of kind) (sym (drop_before pairs i p low high is))))))
+    ∙ (sym (texts_by_place-known kind p.0 p.1 (drop i pairs) k within (subst P is_name at)) ∙ ap (texts_by_place kind) (sym (drop_before pairs i p low high is))))))
 
 pub placed_unknown : (kind : Kind) (pairs : List (List ℕ × List ℕ)) (i : ℕ) (p : List ℕ × List ℕ) (name : List ℕ) (texts : List (Bor (List ℕ)))
     → 0 < i → i ≤ length pairs → p ≡ get_or pairs (i - 1) p → name ≡ p.0 → has_field kind name ≡ false
-    → take (field_count kind) (read_texts texts) ≡ texts_of kind (drop i pairs) → take (field_count kind) (read_texts texts) ≡ texts_of kind (drop (i - 1) pairs)
+    → take (field_count kind) (read_texts texts) ≡ texts_by_place kind (drop i pairs) → take (field_count kind) (read_texts texts) ≡ texts_by_place kind (drop (i - 1) pairs)
 placed_unknown kind pairs i p name texts low high is is_name unknown sofar =
-    sofar ∙ (sym (texts_of-unknown kind p.0 p.1 (drop i pairs) (ap (has_field kind) (sym is_name) ∙ unknown)) ∙ ap (texts_of kind) (sym (drop_before pairs i p low high is)))
+    sofar ∙ (sym (texts_by_place-unknown kind p.0 p.1 (drop i pairs) (ap (has_field kind) (sym is_name) ∙ unknown)) ∙ ap (texts_by_place kind) (sym (drop_before pairs i p low high is)))
 
 told_known : (rules : Rules) (kind : Kind) (pairs : List (List ℕ × List ℕ)) (i : ℕ) (p : List ℕ × List ℕ) (name : List ℕ) (unknown : Option (List ℕ))
     → 0 < i → i ≤ length pairs → p ≡ get_or pairs (i - 1) p → name ≡ p.0 → is_field rules kind name ≡ true

@@ -139,13 +139,13 @@ akey row = if is_absent (authority_id_in row) || is_no_authority (authority_in r
     else Some (authority_in row, authority_id_in row)
 
 -- There is a key, and it is this one.
-abbrev pub is_key : Text → Text → Option (Text × Text) → Bool
-is_key authority id None = false
-is_key authority id (Some key) = bytes_eq key.0 authority && bytes_eq key.1 id
+abbrev pub is_authority_key : Text → Text → Option (Text × Text) → Bool
+is_authority_key authority id None = false
+is_authority_key authority id (Some key) = bytes_eq key.0 authority && bytes_eq key.1 id
 
 -- The record is live and has this authority key.
 unfoldable pub holds : Text → Text → Row → Bool
-holds authority id row = is_live row && is_key authority id (akey row)
+holds authority id row = is_live row && is_authority_key authority id (akey row)
 
 -- ---- views
 

@@ -55,8 +55,8 @@ abbrev pub check_name : ℕ → Option Text
 check_name number = lookup (λ listed. number == listed) check_names
 
 -- There is a check with this number.
-abbrev pub IsNumber : ℕ → Type 0
-IsNumber number = IsSome (check_name number)
+abbrev pub IsCheckNumber : ℕ → Type 0
+IsCheckNumber number = IsSome (check_name number)
 
 -- ---- a check that failed
 

@@ -132,8 +132,8 @@ abbrev pub names_of : Kind → List Text
 names_of kind = map (λ field. field.0) (fields_of kind)
 
 -- The field at this place has this name.
-abbrev pub has_name : Kind → ℕ × Text → Bool
-has_name kind named = bytes_eq (slice_index_or (names_of kind) (named.0 - 1) (codes "")) named.1
+abbrev pub field_has_name : Kind → ℕ × Text → Bool
+field_has_name kind named = bytes_eq (slice_index_or (names_of kind) (named.0 - 1) (codes "")) named.1
 
 -- ---- what a field holds
 
@@ -174,8 +174,8 @@ is_needed facts Need.WherePendingArchival = facts.archival
 is_needed facts Need.UnlessWithdrawn = not facts.withdrawal
 
 -- An item with these facts may have a field with this need.
-abbrev pub may_stand : Facts → Need → Bool
-may_stand facts Need.Always = true
-may_stand facts Need.Optional = true
-may_stand facts Need.WherePendingArchival = facts.archival
-may_stand facts Need.UnlessWithdrawn = true
+abbrev pub may_be_present : Facts → Need → Bool
+may_be_present facts Need.Always = true
+may_be_present facts Need.Optional = true
+may_be_present facts Need.WherePendingArchival = facts.archival
+may_be_present facts Need.UnlessWithdrawn = true

@@ -20,9 +20,9 @@ parent_type ExceptionCategory.DirectAccountingConsolidationParent = RelationType
 parent_type ExceptionCategory.UltimateAccountingConsolidationParent = RelationType.IsUltimatelyConsolidatedBy
 
 -- The type is that of a direct parent.
-abbrev pub is_direct : RelationType → Bool
-is_direct RelationType.IsDirectlyConsolidatedBy = true
-is_direct other = false
+abbrev pub is_direct_type : RelationType → Bool
+is_direct_type RelationType.IsDirectlyConsolidatedBy = true
+is_direct_type other = false
 
 -- The direct parent of an entity: the end of its active relationship of this type.
 abbrev pub parent_of : Table → Lei → Option Lei

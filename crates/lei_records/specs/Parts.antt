@@ -8,12 +8,12 @@ use Rattle.lei_records.specs.Cells.{category_in, created_in, entity_status_in, i
 use Rattle.lei_records.specs.Exceptions.{exception_category_in, reason_in, subject_in}
 use Rattle.lei_records.specs.Relations.{end_in, ended_in, kind_in, registration_in, relation_initial_in, relation_manager_in, relation_status_in, relation_updated_in, start_in, started_in}
 use Rattle.lei_records.specs.Rows.{Row}
-use Rattle.lei_records.specs.Spelled.{IsExceptionRow, IsRelationRow, IsRow}
+use Rattle.lei_records.specs.Spelled.{IsExceptionRow, IsRecordRow, IsRelationRow}
 use Rattle.lei_shapes.specs.Moment.{read_moment}
 
 -- The parts are those of a record with these texts as its row.
 pub record IsSpelled (parts : Inside) : Type 0 where
-  pub row : IsRow (arc_value parts.texts)
+  pub row : IsRecordRow (arc_value parts.texts)
   pub lei : parts.lei ≡ lei_in (arc_value parts.texts)
   pub category : parts.category ≡ category_in (arc_value parts.texts)
   pub entity_status : parts.entity_status ≡ entity_status_in (arc_value parts.texts)
@@ -48,6 +48,6 @@ pub record IsExceptionSpelled (parts : ExceptionParts) : Type 0 where
   pub reason : parts.reason ≡ reason_in (arc_value parts.texts)
 
 -- Each moment is the one that the text at its index reads as. Nothing is said about a text without a moment.
-abbrev pub AreRead : Row → List (Option ℤ) → Type 0
-AreRead row moments = (index : ℕ) (moment : ℤ) → index < length row → get_or moments index None ≡ Some moment
+abbrev pub MomentsAreRead : Row → List (Option ℤ) → Type 0
+MomentsAreRead row moments = (index : ℕ) (moment : ℤ) → index < length row → get_or moments index None ≡ Some moment
     → read_moment (get_or row index []) ≡ Some moment

@@ -12,8 +12,8 @@ use Rattle.lei_records.specs.declared.readying.FieldCheck.{FieldCheck}
 use Rattle.lei_records.specs.declared.rules.Rules.{Rules}
 use Rattle.lei_records.specs.Checks.{FailedCheck}
 use Rattle.lei_records.specs.Fields.{Field, fields_of, row_fields}
-use Rattle.lei_records.specs.Items.{failed_field, has_wrong_digits, is_field, is_misshapen, is_missing, item_of, row_text, text_of}
-use Rattle.lei_records.specs.Names.{names}
+use Rattle.lei_records.specs.Items.{failed_field, has_wrong_digits, is_field, is_misshapen, item_of, lacks_field, row_text, text_under}
+use Rattle.lei_records.specs.Names.{names_of_fields}
 use Rattle.lei_records.specs.Places.{action_place, registration_place, status_place}
 use Rattle.lei_records.specs.Rows.{Row, text_at}
 
@@ -22,8 +22,8 @@ abbrev pub read_texts : List (Bor Text) → Row
 read_texts texts = map (λ text. text.now) texts
 
 -- The texts of an item's fields in order of place, as they were sent.
-abbrev pub texts_of : Kind → List (Text × Text) → Row
-texts_of kind pairs = map (λ field. text_of pairs field.0) (fields_of kind)
+abbrev pub texts_by_place : Kind → List (Text × Text) → Row
+texts_by_place kind pairs = map (λ field. text_under pairs field.0) (fields_of kind)
 
 -- A field of this kind has this name, whether or not the rules have the field.
 abbrev pub has_field : Kind → Text → Bool
@@ -31,7 +31,7 @@ has_field kind name = list_any (λ field. bytes_eq field.0 name) (fields_of kind
 
 -- The first name that isn't that of a field of this kind by these rules. If the names rise, it is the least such name.
 abbrev pub first_unknown : Rules → Kind → List (Text × Text) → Option Text
-first_unknown rules kind pairs = find (λ name. not (is_field rules kind name)) (names pairs)
+first_unknown rules kind pairs = find (λ name. not (is_field rules kind name)) (names_of_fields pairs)
 
 -- The status at this place is PENDING_ARCHIVAL.
 abbrev pub archival_at : ℕ → Row → Bool
@@ -60,7 +60,7 @@ facts_at rules kind texts =
 
 -- A field with this text fails a check of single fields, in an item with these facts.
 abbrev pub field_fails : FieldCheck → Facts → Field → Text → Bool
-field_fails FieldCheck.Presence facts field text = is_missing facts field text
+field_fails FieldCheck.Presence facts field text = lacks_field facts field text
 field_fails FieldCheck.Shape facts field text = is_misshapen facts field text
 field_fails FieldCheck.Digits facts field text = has_wrong_digits field text
 

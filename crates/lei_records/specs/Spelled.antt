@@ -29,8 +29,8 @@ abbrev pub IsPrinted : Text → Type 0
 IsPrinted text = (seconds : ℤ) × (read_moment text ≡ Some seconds) × (text ≡ moment_text seconds)
 
 -- The text is that of a value of a list.
-abbrev pub IsListed : {V : Type 0} → (Text → Option V) → Text → Type 0
-IsListed {V} value_of text = IsSome (value_of text)
+abbrev pub IsListedText : {V : Type 0} → (Text → Option V) → Text → Type 0
+IsListedText {V} value_of text = IsSome (value_of text)
 
 -- The text is one to five LEIs, all different, separated by single spaces.
 pub record AreCodes (text : Text) : Type 0 where
@@ -40,7 +40,7 @@ pub record AreCodes (text : Text) : Type 0 where
 
 -- The row is that of a record. Each part of it that is more than a text can be read: an LEI by its check digits, a
 -- value by its list, and a moment by its printed form. A part that isn't needed may be absent.
-pub record IsRow (row : Row) : Type 0 where
+pub record IsRecordRow (row : Row) : Type 0 where
   pub places : length row ≡ record_places
   pub lei : IsValid (text_at row lei_place)
   pub category : IsSome (category_of (text_at row category_place))
@@ -53,10 +53,10 @@ pub record IsRow (row : Row) : Type 0 where
   pub renewal : IsPrinted (text_at row renewal_place)
   pub manager : IsValid (text_at row manager_place)
   pub transfer_to : IfSome (present (text_at row receiver_place)) IsValid
-  pub event_type : IfSome (present (text_at row event_type_place)) (IsListed event_type_of)
+  pub event_type : IfSome (present (text_at row event_type_place)) (IsListedText event_type_of)
   pub effective : IfSome (present (text_at row event_effective_place)) IsPrinted
   pub recorded : IfSome (present (text_at row event_recorded_place)) IsPrinted
-  pub event_status : IfSome (present (text_at row event_status_place)) (IsListed event_status_of)
+  pub event_status : IfSome (present (text_at row event_status_place)) (IsListedText event_status_of)
 
 -- The row is that of a relationship.
 pub record IsRelationRow (row : Row) : Type 0 where
@@ -77,10 +77,10 @@ pub record IsExceptionRow (row : Row) : Type 0 where
   pub places : length row ≡ exception_places
   pub lei : IsValid (text_at row subject_place)
   pub category : IsSome (exception_category_of (text_at row exception_category_place))
-  pub reason : IfSome (present (text_at row reason_place)) (IsListed reason_of)
+  pub reason : IfSome (present (text_at row reason_place)) (IsListedText reason_of)
 
 -- The row is that of an item of this kind.
-abbrev pub IsRowOf : Kind → Row → Type 0
-IsRowOf Kind.Record row = IsRow row
-IsRowOf Kind.Relation row = IsRelationRow row
-IsRowOf Kind.Exception row = IsExceptionRow row
+abbrev pub IsRowOfKind : Kind → Row → Type 0
+IsRowOfKind Kind.Record row = IsRecordRow row
+IsRowOfKind Kind.Relation row = IsRelationRow row
+IsRowOfKind Kind.Exception row = IsExceptionRow row

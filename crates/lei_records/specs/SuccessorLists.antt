@@ -14,23 +14,23 @@ abbrev pub filler : Lei
 filler = codes "00000000000000000098"
 
 -- These successors, followed by the filler up to five LEIs.
-abbrev pub filled : List Lei → List Lei
-filled leis = leis ++ replicate (5 - length leis) filler
+abbrev pub in_five_places : List Lei → List Lei
+in_five_places leis = leis ++ replicate (5 - length leis) filler
 
 -- The successors: the first LEIs of the array, as many as are counted.
-abbrev pub listed : Inside → List Lei
-listed s = take s.count s.codes
+abbrev pub codes_counted : Inside → List Lei
+codes_counted s = take s.count s.codes
 
 -- The count is the number of successors, at most five, and the array has the filler past them.
 pub record IsFilled (s : Inside) : Type 0 where
-  pub counted : length (listed s) ≡ s.count
+  pub counted : length (codes_counted s) ≡ s.count
   pub few : s.count ≤ 5
-  pub others : s.codes ≡ filled (listed s)
+  pub others : s.codes ≡ in_five_places (codes_counted s)
 
 -- The count and the array for these successors.
-abbrev pub fields_of : List Lei → Inside
-fields_of leis = record { count = length leis; codes = filled leis }
+abbrev pub successor_fields : List Lei → Inside
+successor_fields leis = record { count = length leis; codes = in_five_places leis }
 
 -- The successors that are read from a count and an array give the same count and array.
-abbrev pub fields_of-listed : (s : Inside) → IsFilled s → fields_of (listed s) ≡ s
-fields_of-listed s is = λ i. record { count = is.counted i; codes = sym is.others i }
+abbrev pub successor_fields-listed : (s : Inside) → IsFilled s → successor_fields (codes_counted s) ≡ s
+successor_fields-listed s is = λ i. record { count = is.counted i; codes = sym is.others i }

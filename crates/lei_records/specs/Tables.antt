@@ -18,7 +18,7 @@ use Rattle.lei_records.specs.Cells.{Cells, lei_in, rec_cell, akey, holds}
 use Rattle.lei_records.specs.Exceptions.{exception_category_in, subject_in}
 use Rattle.lei_records.specs.Relations.{end_in, is_active_of, kind_in, rel_cell, start_in}
 use Rattle.lei_records.specs.Rows.{Row}
-use Rattle.lei_records.specs.Spelled.{IsExceptionRow, IsRelationRow, IsRow}
+use Rattle.lei_records.specs.Spelled.{IsExceptionRow, IsRecordRow, IsRelationRow}
 
 -- The key of a row is a list of texts.
 abbrev pub KeyTexts : Type 0
@@ -200,7 +200,7 @@ AuthorityKeysAreUnique table = (authority id : Text) (a b : Lei) (first second :
 
 -- Each record's row is that of a record.
 abbrev pub HasRows : Table → Type 0
-HasRows table = (key : KeyTexts) (row : Row) → get table.records key ≡ Some row → IsRow row
+HasRows table = (key : KeyTexts) (row : Row) → get table.records key ≡ Some row → IsRecordRow row
 
 -- Each relationship's row is under its own key.
 abbrev pub AreRelationsKeyed : Table → Type 0
@@ -229,7 +229,7 @@ HasExceptionRows table = (key : KeyTexts) (row : Row) → get table.exceptions k
 
 -- A sound table: each row is under its own key, and is that of a record, a relationship or an exception, as its list
 -- says. No two live records have the same authority key, and no two active relationships the same start and type.
-pub record IsSound (table : Table) : Type 0 where
+pub record IsSoundTable (table : Table) : Type 0 where
   pub keyed : IsKeyed table
   pub holders : AuthorityKeysAreUnique table
   pub rows : HasRows table

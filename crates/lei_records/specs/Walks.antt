@@ -14,17 +14,17 @@ Next = Lei → Option Lei
 
 -- The members of a walk after its start: the first one, and then each that the one before it names. At most n are
 -- listed.
-unfoldable pub members : ℕ → Next → Lei → List Lei
-members zero next first = []
-members (suc n) next first = first ∷ option_map_or (members n next) (next first) []
+unfoldable pub walk_members : ℕ → Next → Lei → List Lei
+walk_members zero next first = []
+walk_members (suc n) next first = first ∷ option_map_or (walk_members n next) (next first) []
 
 -- One of the first 200 members is the start.
 abbrev pub is_met : Next → Lei → Lei → Bool
-is_met next start first = list_any (bytes_eq start) (members 200 next first)
+is_met next start first = list_any (bytes_eq start) (walk_members 200 next first)
 
 -- There is a 201st member.
 abbrev pub is_long : Next → Lei → Bool
-is_long next first = length (members 201 next first) == 201
+is_long next first = length (walk_members 201 next first) == 201
 
 -- ---- successors
 

@@ -1,7 +1,7 @@
 //! Why an item is rejected, and how that is reported.
 ghost use Rattle.std.specs.Prelude.{◌≡◌, Some, option_map};
 ghost use Rattle.lei_records.specs.Checks;
-ghost use Rattle.lei_records.specs.Checks.{IsNumber, check_name, check_text};
+ghost use Rattle.lei_records.specs.Checks.{IsCheckNumber, check_name, check_text};
 
 use crate::numbers::*;
 use lei_code::Lei;
@@ -19,13 +19,13 @@ pub struct Check {
 }
 
 impl Model for Check {
-    ghost use Rattle.lei_records.specs.Checks.{FailedCheck, IsNumber};
+    ghost use Rattle.lei_records.specs.Checks.{FailedCheck, IsCheckNumber};
 
     ghost Value = { FailedCheck };
 
     ghost view = { λ check. record { number = check.code; detail = check.detail } };
 
-    ghost invariant = { λ check. IsNumber check.code };
+    ghost invariant = { λ check. IsCheckNumber check.code };
 
     ghost inverse = { λ check. record { code = check.number; detail = check.detail } };
 }
@@ -79,7 +79,7 @@ impl fmt::Display for Check {
 
 // The name of the check with this number.
 fn name_of(number: u8) -> &'static str
-    requires { IsNumber number }
+    requires { IsCheckNumber number }
     ensures { check_name number ≡ Some result.now }
 {
     match number {

@@ -1,7 +1,7 @@
 //! The kinds of items, and the tables of their fields.
 ghost use Rattle.std.specs.Prelude.{◌≡◌, map};
 ghost use Rattle.lei_records.specs.Fields;
-ghost use Rattle.lei_records.specs.Fields.{is_needed, may_stand, read_field};
+ghost use Rattle.lei_records.specs.Fields.{is_needed, may_be_present, read_field};
 
 use crate::places::{
     ACTION, EXCEPTION_PLACES, PLACES_BEFORE_EVENT, RECORD_PLACES, RELATION_PLACES,
@@ -136,8 +136,8 @@ impl Need {
     }
 
     /// Whether an item with these facts may have a field with this need.
-    pub fn may_stand(self, facts: Facts) -> bool
-        ensures { result ≡ may_stand facts self }
+    pub fn may_be_present(self, facts: Facts) -> bool
+        ensures { result ≡ may_be_present facts self }
     {
         facts.archival || self != Need::WherePendingArchival
     }

@@ -18,18 +18,18 @@ pub struct Fields {
 
 impl Model for Fields {
     ghost use Rattle.std.specs.Prelude.{List as Listed, ℕ};
-    ghost use Rattle.lei_records.specs.Names.{ArePaired, paired};
+    ghost use Rattle.lei_records.specs.Names.{ArePaired, in_pairs};
 
     ghost Value = { Listed (Listed ℕ × Listed ℕ) };
 
-    ghost view = { λ fields. paired fields.texts };
+    ghost view = { λ fields. in_pairs fields.texts };
 
     ghost invariant = { λ fields. ArePaired fields.texts };
 }
 
 impl Fields {
     ghost use Rattle.std.specs.Prelude.{◌≡◌, ◌<◌, ◌++◌, ◌∷◌, [], codes, length, slice_index_or, IfOk};
-    ghost use Rattle.lei_records.specs.Names.{AreRising};
+    ghost use Rattle.lei_records.specs.Names.{NamesRise};
 
     /// No fields yet, with room for this many fields, whose names and texts have this many bytes in total.
     pub fn with_capacity(alloc: Global, fields: usize, bytes: usize) -> Result<Self, NoMemory>
@@ -41,7 +41,7 @@ impl Fields {
 
     /// These fields and one more, as the last. With its name the names must still rise strictly.
     pub fn with(self, name: &str, text: &str) -> Result<Self, NoMemory>
-        requires { AreRising (self ++ (name.now, text.now) ∷ []) }
+        requires { NamesRise (self ++ (name.now, text.now) ∷ []) }
         ensures { IfOk result (λ made. made ≡ self ++ (name.now, text.now) ∷ []) }
     {
         let mut texts = self.texts;
@@ -53,7 +53,7 @@ impl Fields {
     /// The number of fields.
     pub fn len(&self) -> usize
         ensures value { result ≡ length self.now }
-        ensures rising { AreRising self.now }
+        ensures rising { NamesRise self.now }
     {
         self.texts.len() / 2
     }

@@ -5,19 +5,20 @@ ghost use Rattle.lei_code.specs.Texts.{Text};
 ghost use Rattle.lei_records.specs.declared.fields.Kind.{Kind};
 ghost use Rattle.lei_records.specs.declared.rules.Rules.{Rules};
 ghost use Rattle.lei_records.specs.Cells.{has_no_event, successors_in};
-ghost use Rattle.lei_records.specs.Fields.{has_name};
-ghost use Rattle.lei_records.specs.Items.{IsRowOf, failed_check, row_of};
+ghost use Rattle.lei_records.specs.Fields.{field_has_name};
+ghost use Rattle.lei_records.specs.Items.{IsRowOfKind, failed_check, row_of};
 ghost use Rattle.lei_records.specs.Places.{named_places};
 
 /// The places that the definitions use are those of the fields that they name.
 pub fn places_have_their_fields()
-    ensures { (kind : Kind) → IsTrue (list_all (has_name kind) (named_places kind)) }
+    ensures { (kind : Kind) → IsTrue (list_all (field_has_name kind) (named_places kind)) }
 {}
 
 /// An item that passes its checks has the row of an item of its kind.
 pub fn good_items_have_rows()
-    ensures { (rules : Rules) (kind : Kind) (pairs : List (Text × Text)) → failed_check rules kind pairs ≡ None
-        → IsRowOf kind (row_of kind pairs) }
+    ensures { (rules : Rules) (kind : Kind) (pairs : List (Text × Text))
+        → failed_check rules kind pairs ≡ None
+        → IsRowOfKind kind (row_of kind pairs) }
 {}
 
 /// A record that passes its checks by the first or the second rules has no field of an event.

@@ -23,13 +23,13 @@ pub struct Printed {
 
 impl Model for Printed {
     ghost use Rattle.lei_records.specs.Rows.{Row};
-    ghost use Rattle.lei_records.specs.Parts.{AreRead};
+    ghost use Rattle.lei_records.specs.Parts.{MomentsAreRead};
 
     ghost Value = { Row };
 
     ghost view = { λ printed. printed.texts };
 
-    ghost invariant = { λ printed. AreRead printed.texts printed.moments };
+    ghost invariant = { λ printed. MomentsAreRead printed.texts printed.moments };
 }
 
 impl Printed {

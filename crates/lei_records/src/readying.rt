@@ -5,7 +5,7 @@ ghost use Rattle.std.specs.Str.{bytes_eq};
 ghost use Rattle.std.specs.Option.{option_copied};
 ghost use Rattle.lei_shapes.specs.Clock.{moment_text};
 ghost use Rattle.lei_shapes.specs.Moment.{read_moment};
-ghost use Rattle.lei_records.specs.Checks.{IsNumber};
+ghost use Rattle.lei_records.specs.Checks.{IsCheckNumber};
 ghost use Rattle.lei_shapes.specs.Shape.{between_spaces};
 ghost use Rattle.lei_records.specs.Fields.{codes_in, field_count, read_field};
 ghost use Rattle.lei_records.specs.Items;
@@ -14,7 +14,7 @@ ghost use Rattle.lei_records.specs.Items.{failed_check, failed_field, ready_as};
 ghost use Rattle.lei_records.specs.Places.{record_places};
 ghost use Rattle.lei_records.specs.Sheets;
 ghost use Rattle.lei_records.specs.Sheets.{failed_at, field_fails, first_at, printed_at, read_texts, readied_by};
-ghost use Rattle.lei_records.specs.Spelled.{IsRowOf};
+ghost use Rattle.lei_records.specs.Spelled.{IsRowOfKind};
 ghost use Rattle.lei_records.specs.declared.readying.FieldCheck.{FieldCheck};
 
 use crate::check::{Check, Detail};
@@ -119,7 +119,7 @@ fn by_digits(
 }
 
 fn bad(alloc: Global, code: u8, name: &str) -> Result<Readied, NoMemory>
-    requires { IsNumber code }
+    requires { IsCheckNumber code }
     ensures { IfOk result (λ item. item ≡ Readied.Bad (failed_field code name.now)) }
 {
     let detail = Detail::Field(Text::copy_of(alloc, name)?);
@@ -146,7 +146,7 @@ fn good(
 
 // The item of a kind with this row. `withdraws` is used only if it is an exception.
 fn item_of(alloc: Global, kind: Kind, withdraws: bool, row: Printed) -> Result<Item, NoMemory>
-    requires { IsRowOf kind row }
+    requires { IsRowOfKind kind row }
     ensures { IfOk result (λ item. item ≡ Items.item_of kind withdraws row) }
 {
     match kind {
@@ -229,7 +229,7 @@ fn fails(check: FieldCheck, facts: Facts, field: &Field, text: &str) -> bool
     match check {
         FieldCheck::Presence => field.2.is_needed(facts) && text.is_empty(),
         FieldCheck::Shape => !text.is_empty()
-            && !(field.1.fits(facts.rules, text) && field.2.may_stand(facts)),
+            && !(field.1.fits(facts.rules, text) && field.2.may_be_present(facts)),
         FieldCheck::Digits => has_wrong_digits(field.1, text),
     }
 }
@@ -279,7 +279,8 @@ struct Shaped {
 fn shaped_row(alloc: Global, rules: Rules, kind: Kind, texts: &[&str]) -> Result<Shaped, NoMemory>
     requires { length texts.now ≡ field_count kind }
     ensures misshapen { IfOk result
-        (λ shaped. option_copied shaped.misshapen ≡ first_at rules FieldCheck.Shape kind (read_texts texts.now)) }
+        (λ shaped. option_copied shaped.misshapen ≡ first_at rules FieldCheck.Shape kind
+        (read_texts texts.now)) }
     ensures row { IfOk result
         (λ shaped. shaped.misshapen ≡ None → shaped.row ≡ printed_at kind (read_texts texts.now)) }
 {
@@ -351,7 +352,7 @@ fn push_fitting(
 {
     match field.1 {
         Content::Shaped(Shape::Moment) if !text.is_empty() => {
-            push_moment(row, field.2.may_stand(facts), text)
+            push_moment(row, field.2.may_be_present(facts), text)
         }
         _ => {
             if fails(FieldCheck::Shape, facts, field, text) {

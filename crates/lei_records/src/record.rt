@@ -3,7 +3,7 @@ ghost use Rattle.std.specs.Prelude.{◌≡◌, ◌≤◌, IfOk};
 ghost use Rattle.lei_records.specs.Cells;
 ghost use Rattle.lei_records.specs.Places.{record_places};
 ghost use Rattle.lei_records.specs.Rows.{text_at};
-ghost use Rattle.lei_records.specs.Spelled.{IsRow};
+ghost use Rattle.lei_records.specs.Spelled.{IsRecordRow};
 
 use crate::field_texts::FieldTexts;
 use crate::places;
@@ -73,7 +73,7 @@ impl Eq for Record {
 impl Record {
     /// The record with these texts, which are moved into it. They must be the row of a record.
     pub(crate) fn of(alloc: Global, row: Printed) -> Result<Self, NoMemory>
-        requires { IsRow row }
+        requires { IsRecordRow row }
         ensures { IfOk result (λ made. made ≡ row) }
     {
         let texts = row.texts();
@@ -96,7 +96,7 @@ impl Record {
     /// Its texts in order of place.
     pub fn texts(&self) -> &FieldTexts
         ensures value { result.now ≡ self.now }
-        ensures row { IsRow self.now }
+        ensures row { IsRecordRow self.now }
     {
         &self.texts
     }
@@ -106,7 +106,7 @@ impl Record {
         requires first { 1 ≤ place }
         requires last { place ≤ record_places }
         ensures value { result.now ≡ text_at self.now place }
-        ensures row { IsRow self.now }
+        ensures row { IsRecordRow self.now }
     {
         text_at(&self.texts, usize::from(place))
     }
@@ -114,7 +114,7 @@ impl Record {
     /// The entity's LEI: the field LEI.
     pub fn lei(&self) -> Lei
         ensures value { result ≡ Cells.lei_in self.now }
-        ensures row { IsRow self.now }
+        ensures row { IsRecordRow self.now }
     {
         self.lei
     }
@@ -271,7 +271,7 @@ impl Record {
 
 #[tactic(auto, unfolding(crate::specs::Cells::status_in))]
 fn status_of(texts: &FieldTexts) -> RecordStatus
-    requires { IsRow texts.now }
+    requires { IsRecordRow texts.now }
     ensures { result ≡ Cells.status_in texts.now }
 {
     match RecordStatus::read(text_at(texts, places::STATUS)) {
@@ -282,7 +282,7 @@ fn status_of(texts: &FieldTexts) -> RecordStatus
 
 #[tactic(auto, unfolding(crate::specs::Cells::entity_status_in))]
 fn entity_status_of(texts: &FieldTexts) -> EntityStatus
-    requires { IsRow texts.now }
+    requires { IsRecordRow texts.now }
     ensures { result ≡ Cells.entity_status_in texts.now }
 {
     match EntityStatus::read(text_at(texts, places::ENTITY_STATUS)) {
@@ -293,7 +293,7 @@ fn entity_status_of(texts: &FieldTexts) -> EntityStatus
 
 #[tactic(auto, unfolding(crate::specs::Cells::category_in))]
 fn category_of(texts: &FieldTexts) -> Category
-    requires { IsRow texts.now }
+    requires { IsRecordRow texts.now }
     ensures { result ≡ Cells.category_in texts.now }
 {
     match Category::read(text_at(texts, places::CATEGORY)) {

@@ -3,7 +3,7 @@ ghost use Rattle.std.specs.Prelude.{◌≡◌, ◌↔◌, ◌<◌, is_some, nat_
 ghost use Rattle.std.specs.Option.{option_copied};
 ghost use Rattle.lei_records.specs.Fields.{field_count, known_count, names_of};
 ghost use Rattle.lei_records.specs.Places.{record_places};
-ghost use Rattle.lei_records.specs.Sheets.{first_unknown, has_field, read_texts, texts_of};
+ghost use Rattle.lei_records.specs.Sheets.{first_unknown, has_field, read_texts, texts_by_place};
 
 use crate::fields::Kind;
 use crate::item::Fields;
@@ -23,7 +23,7 @@ pub struct Sheet<'a> {
 // Puts each text at the place of its name. It goes from the last field to the first, so that the first text under a
 // name and the first unknown name are kept.
 pub fn sheet_of(rules: Rules, kind: Kind, fields: &Fields) -> Sheet<'_>
-    ensures texts { take (field_count kind) (read_texts result.texts) ≡ texts_of kind fields.now }
+    ensures texts { take (field_count kind) (read_texts result.texts) ≡ texts_by_place kind fields.now }
     ensures unknown { option_copied result.unknown ≡ first_unknown rules kind fields.now }
 {
     let mut texts = [""; RECORD_PLACES];

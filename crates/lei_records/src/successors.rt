@@ -22,15 +22,15 @@ impl Model for Successors {
 
     ghost Value = { List (List ℕ) };
 
-    ghost use Rattle.lei_records.specs.SuccessorLists.{IsFilled, fields_of, fields_of-listed, listed};
+    ghost use Rattle.lei_records.specs.SuccessorLists.{IsFilled, codes_counted, successor_fields, successor_fields-listed};
 
-    ghost view = { listed };
+    ghost view = { codes_counted };
 
     ghost invariant = { IsFilled };
 
-    ghost inverse = { fields_of };
+    ghost inverse = { successor_fields };
 
-    ghost inverse_ok = { fields_of-listed };
+    ghost inverse_ok = { successor_fields-listed };
 }
 
 impl Successors {

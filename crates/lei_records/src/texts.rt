@@ -5,7 +5,7 @@ ghost use Rattle.lei_shapes.specs.Moment.{read_moment};
 ghost use Rattle.lei_shapes.specs.Shape.{between_spaces};
 ghost use Rattle.lei_records.specs.Cells.{successors_in};
 ghost use Rattle.lei_records.specs.Rows.{text_at};
-ghost use Rattle.lei_records.specs.Spelled.{AreCodes, IsPrinted, IsRow, moment_in, present};
+ghost use Rattle.lei_records.specs.Spelled.{AreCodes, IsPrinted, IsRecordRow, moment_in, present};
 
 use crate::field_texts::FieldTexts;
 use crate::places;
@@ -51,7 +51,7 @@ pub fn present_code_at(texts: &FieldTexts, place: usize) -> Option<Lei>
 // The LEIs between the spaces of the text of the successor field. There are none if the text is absent.
 #[tactic(auto, unfolding(crate::specs::Cells::successors_in))]
 pub fn successors_at(texts: &FieldTexts) -> Successors
-    requires row { IsRow texts.now }
+    requires row { IsRecordRow texts.now }
     ensures { result ≡ successors_in texts.now }
 {
     let text = text_at(texts, places::SUCCESSOR);

@@ -16,7 +16,7 @@ use Rattle.jiff_core.specs.declared.timestamp.Timestamp.{Timestamp}
 use Rattle.std.proofs.lemmas.Int.{ints}
 use Rattle.jiff_fmt.specs.Text.{zulu_text}
 use Rattle.jiff_fmt.proofs.RoundTrip.{parse_timestamp-text}
-use Rattle.lei_shapes.specs.Clock.{march_count, year_at, month_at, day_at, form_of, IsClockAt, moment_text}
+use Rattle.lei_shapes.specs.Clock.{march_count, year_at, month_at, day_at, written_moment, IsClockAt, moment_text}
 use Rattle.lei_shapes.specs.Moment.{IsMoment, IsMomentRead, IsMomentText, moment_of_instant, whole_seconds, is_moment, read_moment, day_of, second_of_day, ShowsMoment}
 use Rattle.lei_shapes.proofs.ClockLemmas.{day_count-at, civil-at}
 
@@ -122,12 +122,12 @@ date_bounds n h =
     (omega (arith, signed_arith, civil.0.1), omega (arith, civil.1), omega arith)
 
 -- the text by its parts
-pub moment_text-form : (s : ℤ) → moment_text s ≡ form_of (year_at (march_count (day_of s))) (month_at (march_count (day_of s))) (day_at (march_count (day_of s))) (second_of_day s)
+pub moment_text-form : (s : ℤ) → moment_text s ≡ written_moment (year_at (march_count (day_of s))) (month_at (march_count (day_of s))) (day_at (march_count (day_of s))) (second_of_day s)
 unfolding moment_text
 moment_text-form s = simp append_assoc refl
 
 pub moment_text-by : (s : ℤ) (n year month day second : ℕ) → n ≡ march_count (day_of s) → year ≡ year_at n → month ≡ month_at n → day ≡ day_at n → second ≡ second_of_day s
-    → form_of year month day second ≡ moment_text s
+    → written_moment year month day second ≡ moment_text s
 moment_text-by s n year month day second days years months number seconds = rw (years, months, number, days, seconds) (sym (moment_text-form s))
 
 -- a printed form reads as its moment

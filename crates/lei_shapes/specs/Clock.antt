@@ -72,6 +72,6 @@ moment_text seconds =
     date_at (march_count (day_of seconds)) ++ 84 ∷ time_at (second_of_day seconds) ++ 90 ∷ []
 
 -- A date and a second of that day in written form.
-abbrev pub form_of : ℕ → ℕ → ℕ → ℕ → Text
-form_of year month day second =
+abbrev pub written_moment : ℕ → ℕ → ℕ → ℕ → Text
+written_moment year month day second =
     pad4 year ++ 45 ∷ [] ++ pad2 month ++ 45 ∷ [] ++ pad2 day ++ 84 ∷ time_at second ++ 90 ∷ []

@@ -15,8 +15,8 @@ use Rattle.lei_shapes.specs.declared.lists.EventType.{EventType}
 use Rattle.lei_shapes.specs.declared.lists.EventStatus.{EventStatus}
 
 -- The first of the values that has this text, if any.
-abbrev pub named : {V : Type 0} → (V → Text) → List V → Text → Option V
-named text_of values text = find (λ v. bytes_eq (text_of v) text) values
+abbrev pub value_named : {V : Type 0} → (V → Text) → List V → Text → Option V
+value_named text_of values text = find (λ v. bytes_eq (text_of v) text) values
 
 -- By a table, a text reads as the value whose text it is, and as `None` exactly if no value has this text.
 abbrev pub IsReadBy : {V : Type 0} → (V → Text) → Text → Option V → Type 0
@@ -50,7 +50,7 @@ record_statuses =
 
 -- The status of a record that a text writes, if it does.
 abbrev pub record_status_of : Text → Option RecordStatus
-record_status_of = named record_status_text record_statuses
+record_status_of = value_named record_status_text record_statuses
 
 -- How the text says whether the entity itself is active.
 abbrev pub entity_status_text : EntityStatus → Text
@@ -65,7 +65,7 @@ entity_statuses =
 
 -- The entity status that a text writes, if it does.
 abbrev pub entity_status_of : Text → Option EntityStatus
-entity_status_of = named entity_status_text entity_statuses
+entity_status_of = value_named entity_status_text entity_statuses
 
 -- How the category of an entity is written.
 abbrev pub category_text : Category → Text
@@ -84,7 +84,7 @@ categories =
 
 -- The category that a text writes, if it does.
 abbrev pub category_of : Text → Option Category
-category_of = named category_text categories
+category_of = value_named category_text categories
 
 -- How the text says how far the data were corroborated.
 abbrev pub validation_text : Validation → Text
@@ -101,7 +101,7 @@ validations =
 
 -- The validation that a text writes, if it does.
 abbrev pub validation_of : Text → Option Validation
-validation_of = named validation_text validations
+validation_of = value_named validation_text validations
 
 -- How the type of a relationship is written: how its start is related to its end.
 abbrev pub relation_type_text : RelationType → Text
@@ -121,7 +121,7 @@ relation_types =
 
 -- The type of a relationship that a text writes, if it does.
 abbrev pub relation_type_of : Text → Option RelationType
-relation_type_of = named relation_type_text relation_types
+relation_type_of = value_named relation_type_text relation_types
 
 -- How the text says whether a relationship holds.
 abbrev pub relation_status_text : RelationStatus → Text
@@ -135,7 +135,7 @@ relation_statuses =
 
 -- The status of a relationship that a text writes, if it does.
 abbrev pub relation_status_of : Text → Option RelationStatus
-relation_status_of = named relation_status_text relation_statuses
+relation_status_of = value_named relation_status_text relation_statuses
 
 -- How the registration status of a relationship is written.
 abbrev pub relation_registration_text : RelationRegistration → Text
@@ -153,7 +153,7 @@ relation_registrations =
 
 -- The registration status of a relationship that a text writes, if it does.
 abbrev pub relation_registration_of : Text → Option RelationRegistration
-relation_registration_of = named relation_registration_text relation_registrations
+relation_registration_of = value_named relation_registration_text relation_registrations
 
 -- How the category of a reporting exception is written: which parent it is about.
 abbrev pub exception_category_text : ExceptionCategory → Text
@@ -170,7 +170,7 @@ exception_categories =
 
 -- The category of an exception that a text writes, if it does.
 abbrev pub exception_category_of : Text → Option ExceptionCategory
-exception_category_of = named exception_category_text exception_categories
+exception_category_of = value_named exception_category_text exception_categories
 
 -- How the text says why no parent is reported.
 abbrev pub reason_text : Reason → Text
@@ -194,7 +194,7 @@ reasons =
 
 -- The reason that a text writes, if it does.
 abbrev pub reason_of : Text → Option Reason
-reason_of = named reason_text reasons
+reason_of = value_named reason_text reasons
 
 -- How the type of a legal entity's event is written.
 abbrev pub event_type_text : EventType → Text
@@ -216,7 +216,7 @@ event_types =
 
 -- The type of an event that a text writes, if it does.
 abbrev pub event_type_of : Text → Option EventType
-event_type_of = named event_type_text event_types
+event_type_of = value_named event_type_text event_types
 
 -- How the text says how far an event has come.
 abbrev pub event_status_text : EventStatus → Text
@@ -231,4 +231,4 @@ event_statuses =
 
 -- The status of an event that a text writes, if it does.
 abbrev pub event_status_of : Text → Option EventStatus
-event_status_of = named event_status_text event_statuses
+event_status_of = value_named event_status_text event_statuses

@@ -34,9 +34,9 @@ between_spaces [] = [] ∷ []
 between_spaces (byte ∷ text) = if byte == 32 then [] ∷ between_spaces text else with_byte byte (between_spaces text)
 
 -- The same for the text that follows a space, if there is one.
-abbrev pub texts_behind : Option (Bor Text) → List Text
-texts_behind None = []
-texts_behind (Some text) = between_spaces text.now
+abbrev pub texts_at_hand : Option (Bor Text) → List Text
+texts_at_hand None = []
+texts_at_hand (Some text) = between_spaces text.now
 
 -- No text is in the list twice.
 abbrev pub are_different : List Text → Bool

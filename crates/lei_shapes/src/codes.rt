@@ -2,7 +2,7 @@
 ghost use Rattle.std.specs.Prelude.{◌≡◌, ◌==◌, ◌<◌, ◌∷◌, length, IfSome};
 ghost use Rattle.std.specs.List.{list_any, position};
 ghost use Rattle.std.specs.Str.{bytes_eq};
-ghost use Rattle.lei_shapes.specs.Shape.{between_spaces, is_codes, texts_behind};
+ghost use Rattle.lei_shapes.specs.Shape.{between_spaces, is_codes, texts_at_hand};
 
 use crate::shapes::is_code;
 
@@ -17,7 +17,7 @@ fn first_space(text: &[u8]) -> Option<usize>
 
 /// A text up to its first space, and what follows that space, if there is one.
 pub fn cut_at_space(text: &[u8]) -> (&[u8], Option<&[u8]>)
-    ensures texts { between_spaces text.now ≡ result.0.now ∷ texts_behind result.1 }
+    ensures texts { between_spaces text.now ≡ result.0.now ∷ texts_at_hand result.1 }
     ensures shorter { IfSome result.1 (λ rest. length rest.now < length text.now) }
 {
     match first_space(text) {
@@ -27,8 +27,8 @@ pub fn cut_at_space(text: &[u8]) -> (&[u8], Option<&[u8]>)
 }
 
 // Whether the text is one of those between the spaces of another text.
-fn stands_in(text: &[u8], several: Option<&[u8]>) -> bool
-    ensures { result ≡ list_any (bytes_eq text.now) (texts_behind several.entry) }
+fn is_listed_in(text: &[u8], several: Option<&[u8]>) -> bool
+    ensures { result ≡ list_any (bytes_eq text.now) (texts_at_hand several.entry) }
 {
     let mut left = several;
     while let Some(several) = left {
@@ -48,7 +48,7 @@ pub fn are_codes(text: &[u8]) -> bool
     let mut left = text;
     for _ in 0..MOST_CODES {
         let (code, rest) = cut_at_space(left);
-        if !is_code(code) || stands_in(code, rest) {
+        if !is_code(code) || is_listed_in(code, rest) {
             return false;
         }
         match rest {

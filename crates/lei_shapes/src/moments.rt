@@ -1,7 +1,7 @@
 //! Moments: whole seconds of UTC.
 ghost use Rattle.std.specs.Prelude.{◌≡◌, ◌+◌, ◌/◌, ◌%◌, ◌↔◌, ◌<◌, IsSome, IfSome, Some, option_map, unwrap_or, IsAscii};
 ghost use Rattle.lei_shapes.specs.Moment.{IsMoment, IsMomentRead, read_moment, IsMomentText, IsDayOf, day_of, second_of_day};
-ghost use Rattle.lei_shapes.specs.Clock.{day_at, form_of, march_count, moment_text, month_at, year_at};
+ghost use Rattle.lei_shapes.specs.Clock.{day_at, march_count, moment_text, month_at, written_moment, year_at};
 
 use jiff::Timestamp;
 use std::marker::Model;
@@ -73,7 +73,7 @@ impl Moment {
         if let Some(moment) = of_form(text) {
             return Some((moment, None));
         }
-        let moment = parsed(text)?;
+        let moment = parse_moment(text)?;
         Some((moment, Some(moment.text())))
     }
 
@@ -85,7 +85,7 @@ impl Moment {
         ensures ascii { IsAscii result }
     {
         let (year, month, day) = date_of(self.march_count());
-        written(year, month, day, self.second_of_day())
+        write_moment(year, month, day, self.second_of_day())
     }
 
     /// The number of its day in UTC; 1970-01-01 is 0.
@@ -124,7 +124,7 @@ pub fn day_number(seconds: i64) -> i32
 }
 
 // The moment of a text that `jiff` reads.
-fn parsed(text: &str) -> Option<Moment>
+fn parse_moment(text: &str) -> Option<Moment>
     ensures reads { IsMomentRead text.now result }
     ensures value { result ≡ read_moment text.now }
 {
@@ -197,12 +197,12 @@ fn date_of(days: u32) -> (u32, u32, u32)
 }
 
 // A date and a second of that day in written form, with `Z` for UTC.
-fn written(year: u32, month: u32, day: u32, second: u32) -> [u8; 20]
+fn write_moment(year: u32, month: u32, day: u32, second: u32) -> [u8; 20]
     requires year { year < 10_000 }
     requires month { month < 100 }
     requires day { day < 100 }
     requires second { second < 86_400 }
-    ensures { result ≡ form_of year month day second }
+    ensures { result ≡ written_moment year month day second }
 {
     let (century, year) = ((year / 100) as u8, (year % 100) as u8);
     let (month, day) = (month as u8, day as u8);

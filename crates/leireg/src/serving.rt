@@ -1,7 +1,7 @@
 //! The register served over HTTP, through connections of the machine.
 ghost use Rattle.std.specs.Prelude.{◌≡◌, false, length, All, IfOk};
 ghost use Rattle.program_words.specs.Words.{Meant};
-ghost use Rattle.leireg_serve.specs.Words.{Mean};
+ghost use Rattle.leireg_serve.specs.Words.{MeanServing};
 
 use crate::store::{StoreKeeper, close, keeper_at};
 use lei_outside::OpenGate;
@@ -50,7 +50,7 @@ fn serve_desks<R: Threads + Wait + Sync, S: Alter + Drop + Send>(
     keeper: StoreKeeper<'_, S>,
     desks: Vec<TcpDesk<'_>>,
 ) -> u8
-    requires count { (what : Meant) → Mean words.now what → length desks.items ≡ what.workers }
+    requires count { (what : Meant) → MeanServing words.now what → length desks.items ≡ what.workers }
     requires doors { All (λ desk. desk.door.out ≡ false) desks.items }
 {
     let (status, keeper, _) = serve(rt, host.alloc(), words, keeper, desks, &OpenGate);

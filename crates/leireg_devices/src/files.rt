@@ -1,7 +1,7 @@
 //! Files and the standard input as sources.
 ghost use Rattle.std.specs.Io.KnownBytes.{ReadConsumes};
 ghost use Rattle.std.specs.Prelude.{◌≡◌, ◌≤◌, ◌<◌, None, Some, length, IfOk, IfSome, OnErr, OnOk, MatchResult};
-ghost use Rattle.lei_outside.specs.Count.{Rose, counted};
+ghost use Rattle.lei_outside.specs.Count.{Rose, count_up};
 ghost use Rattle.lei_outside.specs.Told.{Reads};
 
 use crate::streams::read_once;
@@ -47,7 +47,7 @@ impl<F: Read> Source for FileSource<F> {
         ensures failed { OnErr result (Rose self.old.1 self.new.1) }
         ensures exact { MatchResult result
             (λ _. self.new.1 ≡ self.old.1)
-            (λ _. self.new.1 ≡ counted self.old.1) }
+            (λ _. self.new.1 ≡ count_up self.old.1) }
         ensures reader { IfSome self.old.0 (λ old. (new : F) × (self.new.0 ≡ Some new)
             × ReadConsumes (F.remaining old) (F.remaining new) result buffer.new) }
         ensures none { self.old.0 ≡ None → (self.new.0 ≡ None) × OnOk result ⊥ }

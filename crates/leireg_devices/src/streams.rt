@@ -1,7 +1,7 @@
 //! Any writer of std, such as the standard output, as a sink, and single reads of a reader.
 ghost use Rattle.std.specs.Io.KnownBytes.{ReadConsumes, WriteAppends};
 ghost use Rattle.std.specs.Prelude.{◌≡◌, ◌≤◌, ◌<◌, None, length, IfOk, IsErrOf, MatchResult};
-ghost use Rattle.lei_outside.specs.Count.{Rose, counted};
+ghost use Rattle.lei_outside.specs.Count.{Rose, count_up};
 ghost use Rattle.lei_outside.specs.Told.{Writes};
 
 use lei_outside::{Failed, Sink, SinkFault};
@@ -45,7 +45,7 @@ impl<W: Write> Sink for StdSink<W> {
         ensures failed { IsErrOf result SinkFault.Failed → Rose self.old.1 self.new.1 }
         ensures exact { MatchResult result
             (λ _. self.new.1 ≡ self.old.1)
-            (λ fault. (fault ≡ SinkFault.Failed) × (self.new.1 ≡ counted self.old.1)) }
+            (λ fault. (fault ≡ SinkFault.Failed) × (self.new.1 ≡ count_up self.old.1)) }
         ensures writer { WriteAppends (W.contents self.old.0) (W.contents self.new.0) result piece.now }
     {
         match write_once(&mut self.writer, piece) {

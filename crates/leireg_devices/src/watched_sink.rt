@@ -5,8 +5,8 @@ use lei_outside::{Sink, SinkFault};
 use std::io::{self, IsTerminal};
 use std::marker::Model;
 
-/// A sink that reports on the standard error how many requests of a long command were answered, in at most ten lines. If
-/// the standard error isn't a terminal, it reports nothing. What it takes and tells is the same as for the inner sink, and
+/// A sink that reports on the standard error how many requests of a long command were answered, in at most ten lines.
+/// If the standard error isn't a terminal, it reports nothing. It takes and tells the same as the inner sink, and
 /// contracts see that sink alone.
 #[derive(Drop)]
 pub struct WatchedSink<'a, W> {

@@ -1,5 +1,6 @@
 -- If nothing fails and memory doesn't run out, everything is done.
 use Rattle.std.proofs.Common.{◌≡◌, ◌≢◌, ◌⊎◌, ◌<◌, ◌≤◌, ℕ, Result, Ok, Err, refl, List, ◌++◌, length, Option, Some, None, Contains, unwrap_or, inl, inr, ap, sym, subst, ◌∙◌, arith, length-append}
+use Rattle.std.specs.Prelude.{IsErrOf}
 use Rattle.std.proofs.lemmas.List.{append-nil}
 use Rattle.std.specs.Str.Lines.{lines}
 use Rattle.lei_code.specs.Fault.{fault_of}
@@ -8,12 +9,12 @@ use Rattle.lei_outside.specs.Count.{Rose}
 use Rattle.lei_outside.specs.Told.{Grows, Loses, IsAtEnd}
 use Rattle.register_words.specs.declared.reply.Refusal.TheVariants.{NoMemory}
 use Rattle.register_words.specs.declared.reply.Reply.TheVariants.{Words}
-use Rattle.register_history.specs.Legal.{Session, replies_to}
+use Rattle.register_history.specs.Legal.{OfficeSession, replies_to}
 use Rattle.register_history.specs.State.{OfficeState}
 use Rattle.register_history.proofs.Sessions.{exact}
-use Rattle.file_commands.specs.Codes.{check_line, digits_fault, digits_line, told_status, TellsLine}
+use Rattle.file_commands.specs.Codes.{check_line, digits_fault, digits_line, code_status, WritesLine}
 use Rattle.lei_outside.specs.Keeping.{KeptTables}
-use Rattle.leireg_run.specs.Ends.{AnswersLines, Completes, Does, EndsWith, FailsToOpen, IsComplete, Opens, TellsDamage, TellsSummary}
+use Rattle.leireg_run.specs.Ends.{AnswersLines, CompletesRun, Does, EndsRunWith, FailsToOpen, IsComplete, Opens, WritesDamage, WritesSummary}
 use Rattle.file_commands.specs.Applying.{Patches}
 use Rattle.file_commands.specs.Grouping.{Reports}
 use Rattle.file_commands.specs.TwoFiles.{files}
@@ -25,8 +26,8 @@ use Rattle.file_commands.proofs.Searched.{completes_search}
 use Rattle.file_commands.proofs.TwoFilesRead.{completes_files}
 use Rattle.request_loop.specs.Counts.{RoseBy}
 use Rattle.lei_office.specs.Faults.{keeper_faults}
-use Rattle.file_commands.specs.Files.{input_limit}
-use Rattle.leireg_run.specs.Outside.{Course, Leads, Outside}
+use Rattle.file_commands.specs.Files.{run_limit}
+use Rattle.leireg_run.specs.Outside.{Course, OutputFails, Outside, RunLeads}
 use Rattle.line_reading.specs.LineRuns.{asks_of_lines}
 use Rattle.program_words.specs.Words.{Invocation, to_answer_lines, to_check, to_make_digits, to_make_up, to_mirror, to_patch, to_report, to_search, to_serve}
 use Rattle.file_commands.specs.Status.{end_status, stop_status}
@@ -56,11 +57,11 @@ exactly from bytes course before now first answered rose still lacks =
     (none_reported course.replies before now rose still))
 
 complete_of : (may : Option KeptTables → Type 0) (from : OfficeState) (bytes : List ℕ) (before after : Outside) (course : Course) (status : ℕ) → status ≡ 0
-    → Opens may before.kept after.kept from → IsAtEnd after.left → course.first ≡ from → Leads before course after
+    → Opens may before.kept after.kept from → IsAtEnd after.left → course.first ≡ from → RunLeads before course after
     → AnswersLines (lines bytes) course → IsComplete may bytes before after status
 complete_of may from bytes before after course status is opened ended first leads answered =
     let G : List ℕ → Type 0 = λ texts. Grows before.written after.written texts in
-    let S : OfficeState → Type 0 = λ office. Session office (asks_of_lines (lines bytes)) course.moments course.replies
+    let S : OfficeState → Type 0 = λ office. OfficeSession office (asks_of_lines (lines bytes)) course.moments course.replies
     course.last in
     record {
       ok = is;
@@ -78,8 +79,8 @@ complete_of may from bytes before after course status is opened ended first lead
     }
 
 ends_done : (may : Option KeptTables → Type 0) (from : OfficeState) (bytes : List ℕ) (before after : Outside) (course : Course) (status : ℕ) → status ≢ 3 → status ≢ 4
-    → status ≢ 6 → length bytes < input_limit → Opens may before.kept after.kept from
-    → before.left ≡ Some bytes → course.first ≡ from → Leads before course after → EndsWith status course after
+    → status ≢ 6 → length bytes < run_limit → Opens may before.kept after.kept from
+    → before.left ≡ Some bytes → course.first ≡ from → RunLeads before course after → EndsRunWith status course after
     → IsComplete may bytes before after status
 ends_done may from bytes before after course status n3 n4 n6 short opened told first leads (inl (is, (below, ended, answered))) =
     let L : Option (List ℕ) → Type 0 = λ all. Loses all after.left course.read in
@@ -97,15 +98,15 @@ ends_done may from bytes before after course status n3 n4 n6 short opened told f
 
 tells_done : (fault : Option LeiFault) (line : List ℕ) (before after : Option (List ℕ)) (status : ℕ) → status ≢ 4
     → status ≢ 6
-    → TellsLine fault line before after status → status ≡ told_status fault
+    → WritesLine fault line before after status → status ≡ code_status fault
 tells_done fault line before after status n4 n6 (inl told) = told.0
 tells_done fault line before after status n4 n6 (inr (inl stopped)) = absurd (n4 stopped.0)
 tells_done fault line before after status n4 n6 (inr (inr stopped)) = absurd (n6 stopped.0)
 
 -- a store that isn't opened
-unopened_done : (before after : Outside) (status : ℕ) → status ≢ 6 → (status ≡ 7 → TellsDamage {E = Unit {0}} before after (Ok (tt {0})))
+unopened_done : (before after : Outside) (status : ℕ) → status ≢ 6 → (status ≡ 7 → WritesDamage {E = Unit {0}} before after (Ok (tt {0})))
     → FailsToOpen before after status
-    → ((status ≡ 5) × Rose before.faults after.faults) ⊎ ((status ≡ 7) × TellsDamage {E = Unit {0}} before after (Ok (tt {0})))
+    → ((status ≡ 5) × Rose before.faults after.faults) ⊎ ((status ≡ 7) × WritesDamage {E = Unit {0}} before after (Ok (tt {0})))
 unopened_done before after status n6 whole is = elim is.ends [
   | inl failed ↦ inl (failed.0, failed.1)
   | inr (inl wanted) ↦ absurd (n6 wanted.0)
@@ -113,7 +114,7 @@ unopened_done before after status n6 whole is = elim is.ends [
   | inr (inr (inr damaged)) ↦ inr (damaged.0, whole damaged.0)
 ]
 
-summary_done : (records : ℕ) (before after : Option (List ℕ)) (status : ℕ) → status ≢ 4 → status ≢ 6 → TellsSummary records before after status
+summary_done : (records : ℕ) (before after : Option (List ℕ)) (status : ℕ) → status ≢ 4 → status ≢ 6 → WritesSummary records before after status
     → (status ≡ 0) × ((text : Text) × IsSummary records text × Grows before after text)
 summary_done records before after status n4 n6 (inl (text, is, inl told)) = (told.0, (text, is, told.1))
 summary_done records before after status n4 n6 (inl (text, is, inr (inl failed))) = absurd (n4 failed.0)
@@ -121,8 +122,8 @@ summary_done records before after status n4 n6 (inl (text, is, inr (inr wanted))
 summary_done records before after status n4 n6 (inr wanted) = absurd (n6 wanted.0)
 
 pub completes : (may : Option KeptTables → Type 0) (what : Invocation) (before after : Outside) (second second_after : Option (List ℕ)) (status : ℕ) → status ≢ 3 → status ≢ 4 → status ≢ 6
-    → (status ≡ 7 → TellsDamage {E = Unit {0}} before after (Ok (tt {0}))) → Does may what before after second second_after status
-    → Completes may what before after second second_after status
+    → (status ≡ 7 → WritesDamage {E = Unit {0}} before after (Ok (tt {0}))) → Does may what before after second second_after status
+    → CompletesRun may what before after second second_after status
 completes may to_answer_lines before after second second_after status n3 n4 n6 whole (inl opens) =
     λ bytes told short. inl (ends_done may opens.first bytes before after opens.runs.course status n3 n4 n6 short opens.opened told opens.runs.first
     opens.runs.leads opens.runs.ends)
@@ -170,10 +171,23 @@ only_damage stops.NoMemory is = cc
 only_damage stops.StoreDamaged is = refl
 only_damage stops.InputTooLong is = cc
 
+-- what a run that stopped did to its output, by its status
+pub output_stopped : {W : Type 0} (written : W → Option (List ℕ)) (faults : W → ℕ) (before after : W) (ended : Result (Unit {0}) Stop) (stop : Stop) (status : ℕ)
+    → ended ≡ Err stop → status ≡ stop_status stop
+    → OutputFails (IsErrOf ended stops.WriteFault) (IsErrOf ended stops.StoreDamaged) written faults before after
+    → OutputFails (status ≡ 4) (status ≡ 7) written faults before after
+output_stopped written faults before after ended stop status stopped status_is fails = record {
+  last = λ four. fails.last (stopped ∙ ap Err (only_write stop (sym status_is ∙ four)));
+  damage = λ seven. fails.damage (stopped ∙ ap Err (only_damage stop (sym status_is ∙ seven)));
+  none = λ unfailed whole. fails.none
+      (λ is. let both = sym stopped ∙ is in let same : stop ≡ stops.WriteFault = cc in unfailed (status_is ∙ ap stop_status same))
+      (λ is. let both = sym stopped ∙ is in let same : stop ≡ stops.StoreDamaged = cc in whole (status_is ∙ ap stop_status same));
+}
+
 -- what the words mean was done, and nothing stopped it
 pub completes_meant : (may : Option KeptTables → Type 0) (command what : Invocation) (meant : Option Invocation) (before after : Outside) (second second_after : Option (List ℕ)) (status number : ℕ) → status ≡ 0
     → number ≡ 0 → Some command ≡ meant → meant ≡ Some what
-    → Does may command before after second second_after status → Completes may what before after second second_after number
+    → Does may command before after second second_after status → CompletesRun may what before after second second_after number
 completes_meant may command what meant before after second second_after status number ok zero is means does =
     let same : command ≡ what = ap (λ o. unwrap_or o command) (is ∙ means) in
     let D : Invocation → Type 0 = λ m. Does may m before after second second_after 0 in
@@ -181,15 +195,15 @@ completes_meant may command what meant before after second second_after status n
     let n3 : 0 ≢ 3 = λ is. absurd (omega (arith, is)) in
     let n4 : 0 ≢ 4 = λ is. absurd (omega (arith, is)) in
     let n6 : 0 ≢ 6 = λ is. absurd (omega (arith, is)) in
-    let n7 : 0 ≡ 7 → TellsDamage {E = Unit {0}} before after (Ok (tt {0})) = λ is. absurd (omega (arith, is)) in
-    subst (λ n. Completes may what before after second second_after n) (sym zero)
+    let n7 : 0 ≡ 7 → WritesDamage {E = Unit {0}} before after (Ok (tt {0})) = λ is. absurd (omega (arith, is)) in
+    subst (λ n. CompletesRun may what before after second second_after n) (sym zero)
     (completes may what before after second second_after 0 n3 n4 n6 n7 (subst D same (subst N ok does)))
 
 -- what the words mean was stopped, but nothing failed
 pub completes_stopped : (may : Option KeptTables → Type 0) (command what : Invocation) (meant : Option Invocation) (before after : Outside) (second second_after : Option (List ℕ)) (ended : Result (Unit {0}) Stop) (stop : Stop) (status : ℕ)
     → ended ≡ Err stop → status ≡ stop_status stop → Some command ≡ meant → meant ≡ Some what → (ended ≡ Err stops.ReadFault → ⊥) → (ended ≡ Err stops.WriteFault → ⊥) → status ≢ 6
-    → (ended ≡ Err stops.StoreDamaged → TellsDamage {E = Unit {0}} before after (Ok (tt {0}))) → Does may command before after second second_after (end_status ended)
-    → Completes may what before after second second_after status
+    → (ended ≡ Err stops.StoreDamaged → WritesDamage {E = Unit {0}} before after (Ok (tt {0}))) → Does may command before after second second_after (end_status ended)
+    → CompletesRun may what before after second second_after status
 completes_stopped may command what meant before after second second_after ended stop status stopped status_is is means read wrote n6 whole does =
     let same : command ≡ what = ap (λ o. unwrap_or o command) (is ∙ means) in
     let at : end_status ended ≡ status = ap end_status stopped ∙ sym status_is in

@@ -15,9 +15,9 @@ use Rattle.line_reading.specs.Lines.{Line, whole_part}
 use Rattle.line_reading.specs.Replies.{reply_texts}
 use Rattle.line_reading.specs.declared.framing.NoEnd.{NoEnd}
 use Rattle.line_reading.proofs.LineRuns.{AnsweredSome, all_front, answered_all, answered_in_part, answered_to_end}
-use Rattle.leireg_run.specs.Ends.{AnswersLines, AnswersSome, EndsWith, RunsFrom, StopsWriting}
-use Rattle.leireg_run.specs.Outside.{Course, Leads, Outside, outside}
-use Rattle.file_commands.specs.Files.{input_limit}
+use Rattle.leireg_run.specs.Ends.{AnswersLines, AnswersSome, EndsRunWith, RunsFrom, StopsWriting}
+use Rattle.leireg_run.specs.Outside.{Course, Outside, RunLeads, outside}
+use Rattle.file_commands.specs.Files.{run_limit}
 use Rattle.file_commands.specs.Status.{end_status, ended_as}
 use Rattle.leireg_run.proofs.Fitting.{reads_office}
 
@@ -56,7 +56,7 @@ runs_lines : (start now : Progress CountedOffice)
     → Loses left left_now read → Keeps kept now.who.office
     → (answered : AnsweredLines OfficeStep start all now)
     → (AnswersLines all (course_of start now read all answered)
-    → EndsWith status (course_of start now read all answered) (outside_at left_now kept now))
+    → EndsRunWith status (course_of start now read all answered) (outside_at left_now kept now))
     → RunsFrom start.who.office (outside_at left told start) (outside_at left_now kept now) status
 runs_lines start now left left_now told kept read all status loses keeps answered ends =
     let asks = asks_of_lines all in
@@ -83,7 +83,7 @@ runs_front : (start now : Progress CountedOffice)
     → Loses left left_now read → Keeps kept now.who.office
     → (answered : AnsweredFront OfficeStep start all now)
     → (AnswersSome all (cut_course start now read all answered)
-    → EndsWith status (cut_course start now read all answered) (outside_at left_now kept now))
+    → EndsRunWith status (cut_course start now read all answered) (outside_at left_now kept now))
     → RunsFrom start.who.office (outside_at left told start) (outside_at left_now kept now) status
 runs_front start now left left_now told kept read all status loses keeps answered ends =
     let asks = asks_of_lines answered.front in
@@ -116,7 +116,7 @@ abbrev pub IsCause : ℕ → Type 0
 IsCause status = (status ≡ 4) ⊎ (status ≡ 6)
 
 stops_so : (status : ℕ) (course : Course) (after : Outside) → IsCause status → StopsWriting course after
-    → EndsWith status course after
+    → EndsRunWith status course after
 stops_so status course after (inl is) stops = inr (inr (inl (is, stops)))
 stops_so status course after (inr is) stops = inr (inr (inr (inl (is, stops))))
 
@@ -124,7 +124,7 @@ stops_so status course after (inr is) stops = inr (inr (inr (inl (is, stops))))
 runs_some : (start now : Progress CountedOffice)
     (left left_now : Option (List ℕ)) (told kept : Option KeptTables) (read : List ℕ) (status : ℕ)
     → Loses left left_now read → Keeps kept now.who.office
-    → length read < input_limit → IsCause status → AnsweredSome OfficeStep start read left_now now
+    → length read < run_limit → IsCause status → AnsweredSome OfficeStep start read left_now now
     → RunsFrom start.who.office (outside_at left told start) (outside_at left_now kept now) status
 runs_some start now left left_now told kept read status loses keeps short cause (inl front) =
     let all = lines (whole_part read) in
@@ -140,7 +140,7 @@ runs_some start now left left_now told kept read status loses keeps short cause 
 runs_by : (start now : Progress CountedOffice)
     (left left_now : Option (List ℕ)) (told kept : Option KeptTables) (read : List ℕ) (ended : Ended NoEnd)
     → Loses left left_now read → Keeps kept now.who.office
-    → serving.EndsWith OfficeStep line_rules input_limit ended start read left_now now
+    → serving.EndsWith OfficeStep line_rules run_limit ended start read left_now now
     → RunsFrom start.who.office (outside_at left told start) (outside_at left_now kept now)
     (end_status (ended_as ended))
 runs_by start now left left_now told kept read Ended.AtEnd loses keeps (short, at_end, all) =
@@ -167,7 +167,7 @@ runs_by start now left left_now told kept read Ended.NoMemory loses keeps (short
 
 pub runs_served : (start now : Progress CountedOffice)
     (left left_now : Option (List ℕ)) (told kept : Option KeptTables) (ended : Ended NoEnd)
-    → Serves OfficeStep line_rules input_limit start left now left_now ended
+    → Serves OfficeStep line_rules run_limit start left now left_now ended
     → Keeps kept now.who.office
     → RunsFrom start.who.office (outside_at left told start) (outside_at left_now kept now)
     (end_status (ended_as ended))

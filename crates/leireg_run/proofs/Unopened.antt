@@ -2,7 +2,7 @@
 use Rattle.std.proofs.Common.{◌≡◌, ◌≤◌, ◌⊎◌, ℕ, ℤ, List, Option, Ok, inl, inr, refl, sym, ap, subst, ◌∙◌, arith}
 use Rattle.std.specs.Prelude.{IfSome}
 use Rattle.lei_outside.specs.Count.{Rose}
-use Rattle.lei_outside.specs.Keeping.{KeptTables, Stays}
+use Rattle.lei_outside.specs.Keeping.{KeptTables, TablesStay}
 use Rattle.lei_outside.specs.Told.{Grows}
 use Rattle.register_history.specs.declared.damage.Damage.{Damage}
 use Rattle.register_history.specs.Damage.{IsDamage}
@@ -17,7 +17,7 @@ use Rattle.register_words.specs.declared.sheets.Form.{Form}
 use Rattle.file_commands.proofs.Mirrored.{mirror_status}
 use Rattle.file_commands.proofs.Searched.{search_status}
 use Rattle.file_commands.proofs.TwoFilesRead.{files_status}
-use Rattle.leireg_run.specs.Ends.{EndsWith, IsDamageTold, IsUnopened, MayTell, RunsFrom, RunsLines, TellsDamage, damage_text}
+use Rattle.leireg_run.specs.Ends.{EndsRunWith, IsDamageWritten, IsUnopened, MayTell, RunsFrom, RunsLines, WritesDamage, damage_text}
 use Rattle.leireg_run.specs.Opened.{IsOpened}
 use Rattle.request_loop.specs.Counts.{RoseBy}
 use Rattle.lei_office.specs.Faults.{keeper_faults}
@@ -43,7 +43,7 @@ runs_so from left given written old new before now after status same runs = reco
 
 -- the store was opened
 pub opens_runs : {K : Type 0} (tables : K → Option KeptTables) (faults : K → ℕ) (left : Option (List ℕ)) (given : Option (List ℤ)) (written : Option (List ℕ)) (keeper opened : K)
-    (first : OfficeState) (after : Outside) (status : ℕ) → Stays (tables keeper) (tables opened) → faults opened ≡ faults keeper → IsOpened (tables opened) first
+    (first : OfficeState) (after : Outside) (status : ℕ) → TablesStay (tables keeper) (tables opened) → faults opened ≡ faults keeper → IsOpened (tables opened) first
     → RunsFrom first (outside left given written (tables opened) (faults opened)) after status → StaysUntold (tables opened) after.kept
     → RunsLines (MayTell tables) (outside left given written (tables keeper) (faults keeper)) after status
 opens_runs {K} tables faults left given written keeper opened first after status stays same is runs untold = inl (record {
@@ -60,7 +60,7 @@ opened_status from before after status runs unopened = by_end status runs.course
     apart status n is (inl five) not5 not7 = not5 (sym is ∙ five)
     apart status n is (inr seven) not5 not7 = not7 (sym is ∙ seven)
 
-    by_end : (status : ℕ) (course : Course) → EndsWith status course after → IsUnopened status → ⊥
+    by_end : (status : ℕ) (course : Course) → EndsRunWith status course after → IsUnopened status → ⊥
     by_end status course (inl e) u = apart status 0 e.0 u (λ is. omega (arith, is)) (λ is. omega (arith, is))
     by_end status course (inr (inl e)) u = apart status 3 e.0 u (λ is. omega (arith, is)) (λ is. omega (arith, is))
     by_end status course (inr (inr (inl e))) u = apart status 4 e.0 u (λ is. omega (arith, is)) (λ is. omega (arith, is))
@@ -69,17 +69,17 @@ opened_status from before after status runs unopened = by_end status runs.course
 
 -- a call of the keeper failed
 pub fails_opening : (may : Option KeptTables → Type 0) (left : Option (List ℕ)) (given : Option (List ℤ)) (written : Option (List ℕ)) (old new : Option KeptTables) (before now : ℕ)
-    → Stays old new → Rose before now → RunsLines may (outside left given written old before) (outside left given written new now) 5
+    → TablesStay old new → Rose before now → RunsLines may (outside left given written old before) (outside left given written new now) 5
 fails_opening may left given written old new before now stays rose = inr (record { unread = refl; unasked = refl; kept = stays; faultless = λ other. absurd (other refl); ends = inl (refl, rose, refl) })
 
 -- memory ran out
 pub wants_opening : (may : Option KeptTables → Type 0) (left : Option (List ℕ)) (given : Option (List ℤ)) (written : Option (List ℕ)) (old new : Option KeptTables) (before now : ℕ)
-    → Stays old new → now ≡ before → RunsLines may (outside left given written old before) (outside left given written new now) 6
+    → TablesStay old new → now ≡ before → RunsLines may (outside left given written old before) (outside left given written new now) 6
 wants_opening may left given written old new before now stays same = inr (record { unread = refl; unasked = refl; kept = stays; faultless = λ _. same; ends = inr (inl (refl, refl)) })
 
 -- the store is damaged
 pub damaged_opening : (may : Option KeptTables → Type 0) (left : Option (List ℕ)) (given : Option (List ℤ)) (written written' : Option (List ℕ)) (old new : Option KeptTables) (before now : ℕ)
-    (damage : Damage) (stop : Stop) → Stays old new → now ≡ before → IfSome new (λ tables. IsDamage standard tables damage) → IsDamageTold written written' (damage_text damage) stop
+    (damage : Damage) (stop : Stop) → TablesStay old new → now ≡ before → IfSome new (λ tables. IsDamage standard tables damage) → IsDamageWritten written written' (damage_text damage) stop
     → RunsLines may (outside left given written old before) (outside left given written' new now) (stop_status stop)
 damaged_opening may left given written written' old new before now damage stop stays same is (inl told) =
     inr (record {
@@ -101,7 +101,7 @@ damaged_opening may left given written written' old new before now damage stop s
 -- the damage is written in full
 pub damage_whole : (left left' : Option (List ℕ)) (given given' : Option (List ℤ)) (written written' : Option (List ℕ)) (old new : Option KeptTables) (before now : ℕ) (damage : Damage)
     → IfSome new (λ tables. IsDamage standard tables damage) → Grows written written' (damage_text damage)
-    → TellsDamage {E = Unit {0}} (outside left given written old before) (outside left' given' written' new now) (Ok (tt {0}))
+    → WritesDamage {E = Unit {0}} (outside left given written old before) (outside left' given' written' new now) (Ok (tt {0}))
 damage_whole left left' given given' written written' old new before now damage is grows = record { damage = damage; is = is; written = grows }
 
 -- a status of a command that has no store

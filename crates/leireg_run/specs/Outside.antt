@@ -52,7 +52,7 @@ pub record Course : Type 0 where
 -- Between these two times a run did this and nothing else. The input lost what was read, the clock gave the moments,
 -- and the output took what was written. The keeper has what the last office has taken, and its calls failed at least as
 -- often as the replies report. For a device that tells nothing, this says nothing.
-pub record Leads (before : Outside) (course : Course) (after : Outside) : Type 0 where
+pub record RunLeads (before : Outside) (course : Course) (after : Outside) : Type 0 where
   pub reads : Loses before.left after.left course.read
   pub gives : ClockGives before.given after.given course.moments
   pub writes : Grows before.written after.written course.written

@@ -2,7 +2,7 @@
 use Rattle.std.specs.Prelude.{◌≡◌, List, Bool, true, false, map, string_bytes, String, Option, None, Some, option_and_then}
 use Rattle.std.specs.Global.{Global}
 use Rattle.lei_code.specs.Texts.{Text}
-use Rattle.program_words.specs.Words.{Invocation, meant, to_answer_lines, to_check, to_make_digits, to_make_up, to_mirror, to_patch, to_report, to_search, to_serve}
+use Rattle.program_words.specs.Words.{Invocation, meant_run, to_answer_lines, to_check, to_make_digits, to_make_up, to_mirror, to_patch, to_report, to_search, to_serve}
 
 -- An invocation that runs between an input and an output: any except to serve, which has doors instead.
 abbrev pub unless_serving : Invocation → Option Invocation
@@ -18,7 +18,7 @@ unless_serving (to_make_up records) = Some (to_make_up records)
 
 -- What the words ask for, or nothing if they aren't a command of such a run.
 abbrev pub invocation_in : List Text → Option Invocation
-invocation_in words = option_and_then (λ what. unless_serving what.invocation) (meant words)
+invocation_in words = option_and_then (λ what. unless_serving what.invocation) (meant_run words)
 
 -- The command reads its first input.
 abbrev pub reads_input : Invocation → Bool

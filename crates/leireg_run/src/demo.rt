@@ -1,7 +1,7 @@
 //! The command that makes up a register.
 ghost use Rattle.std.specs.Prelude.{◌≡◌, ◌≤◌, IsErrOf};
 ghost use Rattle.file_commands.specs.Devices.{FailsIf};
-ghost use Rattle.leireg_run.specs.Ends.{TellsSummary};
+ghost use Rattle.leireg_run.specs.Ends.{WritesSummary};
 ghost use Rattle.file_commands.specs.Status.{end_status};
 
 use file_commands::{Stop, tell_text};
@@ -19,7 +19,7 @@ pub fn tell_demo<R: Threads + Sync, W: Sink>(
 ) -> Result<(), Stop>
     requires least { 2 ≤ records }
     requires most { records ≤ 100_000 }
-    ensures tells { TellsSummary records (W.written out.old) (W.written out.new) (end_status result) }
+    ensures tells { WritesSummary records (W.written out.old) (W.written out.new) (end_status result) }
     ensures writes { FailsIf (IsErrOf result Stop.WriteFault) W.written W.faults out.old out.new }
 {
     let summary = demo(rt, alloc, records, out)?;

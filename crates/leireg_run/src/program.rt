@@ -2,15 +2,15 @@
 ghost use Rattle.std.specs.Prelude.{◌≡◌, ◌≢◌, ◌⊎◌, [], None, Some, Ok, false, Option, map, string_bytes, IfErr, IfOk, IsErrOf};
 ghost use Rattle.lei_outside.specs.Count.{Rose};
 ghost use Rattle.lei_outside.specs.Faults.{FailsLast};
-ghost use Rattle.lei_outside.specs.Keeping.{KeptTables, Stays};
+ghost use Rattle.lei_outside.specs.Keeping.{KeptTables, TablesStay};
 ghost use Rattle.lei_outside.specs.Told.{Grows};
 ghost use Rattle.file_commands.specs.Devices.{FailsIf};
 ghost use Rattle.register_history.specs.Kept.{Keeps, StaysUntold};
 ghost use Rattle.register_words.specs.Limits.{standard};
 ghost use Rattle.lei_office.specs.Offices.{FaultRose, IsRefused, keeper_back};
 ghost use Rattle.leireg_run.specs.Opened.{IsOpened};
-ghost use Rattle.leireg_run.specs.Ends.{RunsFrom, RunsLines, Does, DoesIfRead, Completes, IsDamageTold, IsUnopened, MayTell, TellsDamage, damage_text};
-ghost use Rattle.line_reading.specs.LineFrames.{Holds};
+ghost use Rattle.leireg_run.specs.Ends.{RunsFrom, RunsLines, Does, DoesIfRead, CompletesRun, IsDamageWritten, IsUnopened, MayTell, WritesDamage, damage_text};
+ghost use Rattle.line_reading.specs.LineFrames.{HoldsLines};
 ghost use Rattle.leireg_run.specs.Outside.{OutputFails, outside};
 ghost use Rattle.file_commands.specs.Status.{end_status};
 ghost use Rattle.file_commands.specs.TwoFiles.{OneFailsIf};
@@ -62,25 +62,31 @@ pub fn run<R: Threads + Sync, S: Source, T: Source, W: Sink, K: Keeper, C: Clock
     ensures unkept { ¬ (Mean words.now to_answer_lines) → result.1 ≡ keeper }
     ensures unopened { IsUnopened result.0 → (input.new ≡ input.old) × (clock.new ≡ clock.old) }
     ensures does { (what : Invocation) → Mean words.now what → DoesIfRead (MayTell K.tables) what
-        (outside (S.left input.old) (C.given clock.old) (W.written out.old) (K.tables keeper) (K.faults keeper))
-        (outside (S.left input.new) (C.given clock.new) (W.written out.new) (K.tables result.1) (K.faults result.1))
+        (outside (S.left input.old) (C.given clock.old) (W.written out.old) (K.tables keeper)
+        (K.faults keeper))
+        (outside (S.left input.new) (C.given clock.new) (W.written out.new) (K.tables result.1)
+        (K.faults result.1))
         (T.left second.old) (T.left second.new) result.0 }
     ensures reads { OneFailsIf (result.0 ≡ 3) S.left S.faults input.old input.new
         T.left T.faults second.old second.new }
     ensures writes { OutputFails (result.0 ≡ 4) (result.0 ≡ 7)
         W.written W.faults out.old out.new }
     ensures damage_told { result.0 ≡ 7 → ¬ (Rose (W.faults out.old) (W.faults out.new))
-        → TellsDamage {E = Unit {0}}
-        (outside (S.left input.old) (C.given clock.old) (W.written out.old) (K.tables keeper) (K.faults keeper))
-        (outside (S.left input.new) (C.given clock.new) (W.written out.new) (K.tables result.1) (K.faults result.1))
+        → WritesDamage {E = Unit {0}}
+        (outside (S.left input.old) (C.given clock.old) (W.written out.old) (K.tables keeper)
+        (K.faults keeper))
+        (outside (S.left input.new) (C.given clock.new) (W.written out.new) (K.tables result.1)
+        (K.faults result.1))
         (Ok (tt {0})) }
     ensures complete { (what : Invocation) → Mean words.now what → result.0 ≢ 6
         → ¬ (Rose (S.faults input.old) (S.faults input.new))
         → ¬ (Rose (T.faults second.old) (T.faults second.new))
         → ¬ (Rose (W.faults out.old) (W.faults out.new))
-        → Completes (MayTell K.tables) what
-        (outside (S.left input.old) (C.given clock.old) (W.written out.old) (K.tables keeper) (K.faults keeper))
-        (outside (S.left input.new) (C.given clock.new) (W.written out.new) (K.tables result.1) (K.faults result.1))
+        → CompletesRun (MayTell K.tables) what
+        (outside (S.left input.old) (C.given clock.old) (W.written out.old) (K.tables keeper)
+        (K.faults keeper))
+        (outside (S.left input.new) (C.given clock.new) (W.written out.new) (K.tables result.1)
+        (K.faults result.1))
         (T.left second.old) (T.left second.new) result.0 }
 {
     let command = match command_of(alloc, words) {
@@ -112,17 +118,21 @@ fn run_command<R: Threads + Sync, S: Source, T: Source, W: Sink, K: Keeper, C: C
     ensures unkept { ¬ (invocation_of command.now ≡ to_answer_lines) → result.1 ≡ keeper }
     ensures unopened { IsUnopened (end_status result.0) → (input.new ≡ input.old) × (clock.new ≡ clock.old) }
     ensures does { Does (MayTell K.tables) (invocation_of command.now)
-        (outside (S.left input.old) (C.given clock.old) (W.written out.old) (K.tables keeper) (K.faults keeper))
-        (outside (S.left input.new) (C.given clock.new) (W.written out.new) (K.tables result.1) (K.faults result.1))
+        (outside (S.left input.old) (C.given clock.old) (W.written out.old) (K.tables keeper)
+        (K.faults keeper))
+        (outside (S.left input.new) (C.given clock.new) (W.written out.new) (K.tables result.1)
+        (K.faults result.1))
         (T.left second.old) (T.left second.new) (end_status result.0) }
     ensures reads { OneFailsIf (IsErrOf result.0 Stop.ReadFault) S.left S.faults input.old input.new
         T.left T.faults second.old second.new }
     ensures writes { OutputFails (IsErrOf result.0 Stop.WriteFault) (IsErrOf result.0 Stop.StoreDamaged)
         W.written W.faults out.old out.new }
     ensures damage_told { IsErrOf result.0 Stop.StoreDamaged → ¬ (Rose (W.faults out.old) (W.faults out.new))
-        → TellsDamage {E = Unit {0}}
-        (outside (S.left input.old) (C.given clock.old) (W.written out.old) (K.tables keeper) (K.faults keeper))
-        (outside (S.left input.new) (C.given clock.new) (W.written out.new) (K.tables result.1) (K.faults result.1))
+        → WritesDamage {E = Unit {0}}
+        (outside (S.left input.old) (C.given clock.old) (W.written out.old) (K.tables keeper)
+        (K.faults keeper))
+        (outside (S.left input.new) (C.given clock.new) (W.written out.new) (K.tables result.1)
+        (K.faults result.1))
         (Ok (tt {0})) }
 {
     let rt = machine.rt;
@@ -150,16 +160,20 @@ fn run_lines<R: Threads + Sync, S: Source, W: Sink, K: Keeper, C: Clock>(
 ) -> (Result<(), Stop>, K)
     ensures unopened { IsUnopened (end_status result.0) → (input.new ≡ input.old) × (clock.new ≡ clock.old) }
     ensures runs { RunsLines (MayTell K.tables)
-        (outside (S.left input.old) (C.given clock.old) (W.written out.old) (K.tables keeper) (K.faults keeper))
-        (outside (S.left input.new) (C.given clock.new) (W.written out.new) (K.tables result.1) (K.faults result.1))
+        (outside (S.left input.old) (C.given clock.old) (W.written out.old) (K.tables keeper)
+        (K.faults keeper))
+        (outside (S.left input.new) (C.given clock.new) (W.written out.new) (K.tables result.1)
+        (K.faults result.1))
         (end_status result.0) }
     ensures reads { FailsIf (IsErrOf result.0 Stop.ReadFault) S.left S.faults input.old input.new }
     ensures writes { OutputFails (IsErrOf result.0 Stop.WriteFault) (IsErrOf result.0 Stop.StoreDamaged)
         W.written W.faults out.old out.new }
     ensures damage_told { IsErrOf result.0 Stop.StoreDamaged → ¬ (Rose (W.faults out.old) (W.faults out.new))
-        → TellsDamage {E = Unit {0}}
-        (outside (S.left input.old) (C.given clock.old) (W.written out.old) (K.tables keeper) (K.faults keeper))
-        (outside (S.left input.new) (C.given clock.new) (W.written out.new) (K.tables result.1) (K.faults result.1))
+        → WritesDamage {E = Unit {0}}
+        (outside (S.left input.old) (C.given clock.old) (W.written out.old) (K.tables keeper)
+        (K.faults keeper))
+        (outside (S.left input.new) (C.given clock.new) (W.written out.new) (K.tables result.1)
+        (K.faults result.1))
         (Ok (tt {0})) }
 {
     let Ok(mut framing) = LineFraming::new(alloc) else {
@@ -179,7 +193,7 @@ fn run_lines<R: Threads + Sync, S: Source, W: Sink, K: Keeper, C: Clock>(
 // Reports that a store is damaged, and returns how the command stops. It stops as damaged even if the output failed,
 // but as out of memory if there was no memory for writing.
 fn tell_damage<W: Sink>(damage: &Damage, out: &mut W) -> Stop
-    ensures stop { IsDamageTold (W.written out.old) (W.written out.new) (damage_text damage.now) result }
+    ensures stop { IsDamageWritten (W.written out.old) (W.written out.new) (damage_text damage.now) result }
     ensures kept { result ≡ Stop.NoMemory → W.faults out.new ≡ W.faults out.old }
     ensures whole { result ≡ Stop.StoreDamaged → ¬ (Rose (W.faults out.old) (W.faults out.new))
         → Grows (W.written out.old) (W.written out.new) (damage_text damage.now) }
@@ -201,10 +215,10 @@ fn open_office<R: Threads + Sync, K: Keeper>(
     keeper: K,
 ) -> Result<Office<K>, OpenFault<K>>
     ensures opened { IfOk result (λ office. IsOpened (K.tables office.keeper) office.office) }
-    ensures told { IfOk result (λ office. Stays (K.tables keeper) (K.tables office.keeper)) }
+    ensures told { IfOk result (λ office. TablesStay (K.tables keeper) (K.tables office.keeper)) }
     ensures faultless { IfOk result (λ office. K.faults office.keeper ≡ K.faults keeper) }
     ensures refused { IfErr result (IsRefused standard K.tables) }
-    ensures same { IfErr result (λ fault. Stays (K.tables keeper) (K.tables (keeper_back fault))) }
+    ensures same { IfErr result (λ fault. TablesStay (K.tables keeper) (K.tables (keeper_back fault))) }
     ensures failed { IfErr result
         (λ fault. FaultRose (K.faults keeper) (K.faults (keeper_back fault)) fault) }
 {
@@ -220,7 +234,7 @@ fn answer_input<R: Threads + Sync, S: Source, W: Sink, K: Keeper, C: Clock>(
     out: &mut W,
     clock: &mut C,
 ) -> Result<(), Stop>
-    requires holds { Holds framing.old.skips framing.old.seen [] [] }
+    requires holds { HoldsLines framing.old.skips framing.old.seen [] [] }
     requires none_waits { framing.old.refusals ≡ [] }
     ensures runs { (kept : Option KeptTables) → Keeps kept office.new.office → RunsFrom office.old.office
         (outside (S.left input.old) (C.given clock.old) (W.written out.old) (K.tables office.old.keeper)
@@ -243,7 +257,7 @@ fn serve_lines<R: Threads + Sync, S: Source, W: Sink, K: Keeper, C: Clock>(
     wire: &mut Duplex<'_, S, W>,
     clock: &mut C,
 ) -> Result<(), Stop>
-    requires holds { Holds framing.old.skips framing.old.seen [] [] }
+    requires holds { HoldsLines framing.old.skips framing.old.seen [] [] }
     requires none_waits { framing.old.refusals ≡ [] }
     ensures runs { (kept : Option KeptTables) → Keeps kept office.new.office → RunsFrom office.old.office
         (outside (S.left wire.old.input.now) (C.given clock.old) (W.written wire.old.out.now)

@@ -10,7 +10,7 @@ use Rattle.lei_hall.specs.Passes.{HallPass}
 use Rattle.lei_hall.proofs.Callers.{serves_keep, session_turns, takes_join, takes_none}
 use Rattle.issuer_http.specs.Callers.{ServesCaller}
 use Rattle.issuer_http.specs.Frames.{http_rules}
-use Rattle.issuer_http.specs.Serving.{input_limit}
+use Rattle.issuer_http.specs.Serving.{connection_limit}
 use Rattle.issuer_http.specs.declared.ended.Ended.{Ended}
 use Rattle.leireg_serve.specs.Desks.{DeskState, GivesLines, IsNoneToCome, LineTells, ServedLine, ServesDesk, ServesEach, ServesLine, Stage, TakesLinesBack, stage}
 use Rattle.leireg_serve.specs.declared.desk.DeskEnd.{DeskEnd}
@@ -66,7 +66,7 @@ caller_turns : (before after : any.Progress HallPass) (left left_now : Option (L
     → ServesCaller before left after left_now ended → TakesTurns before.who after.who
 caller_turns before after left left_now ended served =
     let end = served.serves in
-    serves_keep AskTurn http_rules TakesTurns session_turns input_limit before left after left_now end.0 end.2
+    serves_keep AskTurn http_rules TakesTurns session_turns connection_limit before left after left_now end.0 end.2
 
 -- ---- a desk while it is served
 

@@ -1,7 +1,7 @@
 -- Serving over a store that was opened.
 use Rattle.std.proofs.Common.{◌≡◌, ◌⊎◌, ℕ, List, map, Option, None, Some, IfSome, inl, inr, refl, sym, ap, ◌∙◌, subst, arith}
 use Rattle.std.specs.List.{AllZip}
-use Rattle.lei_outside.specs.Keeping.{KeptTables, Stays}
+use Rattle.lei_outside.specs.Keeping.{KeptTables, TablesStay}
 use Rattle.register_words.specs.Limits.{standard}
 use Rattle.register_words.specs.declared.limits.Limits.{Limits}
 use Rattle.register_history.specs.Damage.{IsDamage}
@@ -15,7 +15,7 @@ use Rattle.lei_hall.specs.Closing.{Closes}
 use Rattle.lei_hall.specs.Passes.{HallPass, HallView, numbers_of}
 use Rattle.leireg_run.specs.Ends.{MayTell}
 use Rattle.leireg_serve.specs.Desks.{DeskState, LineTells}
-use Rattle.leireg_serve.specs.Ends.{ClosesOffice, EndsServing, OpensAndServes, Outside, ServesHall, desk_status, fault_status, joint_end, outside}
+use Rattle.leireg_serve.specs.Ends.{ClosesOffice, DesksOutside, EndsServing, OpensAndServes, ServesHall, desk_status, desks_outside, fault_status, joint_end}
 use Rattle.leireg_serve.specs.Workers.{Works}
 use Rattle.leireg_serve.specs.declared.desk.Desk.{Desk}
 use Rattle.leireg_serve.specs.declared.desk.DeskEnd.{DeskEnd}
@@ -23,29 +23,29 @@ use Rattle.leireg_serve.specs.declared.workers.Worker.{Worker}
 use Rattle.leireg_serve.proofs.Served.{all_served}
 
 -- the status follows from the end
-ends_at : {L : Type 0} (may : Option KeptTables → Type 0) (tells : LineTells L) (before after : Outside L) (status : ℕ) (end : DeskEnd)
+ends_at : {L : Type 0} (may : Option KeptTables → Type 0) (tells : LineTells L) (before after : DesksOutside L) (status : ℕ) (end : DeskEnd)
     → OpensAndServes may tells before after end → status ≡ desk_status end → EndsServing may tells before after status
 ends_at may tells before after status DeskEnd.Closed opens is = inl (is, opens)
 ends_at may tells before after status DeskEnd.Failed opens is = inr (inl (is, opens))
 
 -- what is told stays the same
-pub stays_same : (told : Option KeptTables) → Stays told told
+pub stays_same : (told : Option KeptTables) → TablesStay told told
 stays_same None = tt {0}
 stays_same (Some tables) = refl
 
 -- the store wasn't opened
 pub ends_refused : {K L : Type 0} (tables : K → Option KeptTables) (faults : K → ℕ) (tells : LineTells L) (limits : Limits) (keeper back : K) (refusal : OpenFault K)
     (desks : List (DeskState L)) (status : ℕ) → limits ≡ standard → back ≡ keeper_back refusal → IsRefused limits tables refusal
-    → Stays (tables keeper) (tables (keeper_back refusal)) → FaultRose (faults keeper) (faults (keeper_back refusal)) refusal → status ≡ fault_status refusal
-    → EndsServing (MayTell tables) tells (outside (tables keeper) (faults keeper) desks) (outside (tables back) (faults back) desks) status
+    → TablesStay (tables keeper) (tables (keeper_back refusal)) → FaultRose (faults keeper) (faults (keeper_back refusal)) refusal → status ≡ fault_status refusal
+    → EndsServing (MayTell tables) tells (desks_outside (tables keeper) (faults keeper) desks) (desks_outside (tables back) (faults back) desks) status
 ends_refused {K} tables faults tells limits keeper back refusal desks status are same refused stays rose is =
-    subst (λ (k : K). EndsServing (MayTell tables) tells (outside (tables keeper) (faults keeper) desks) (outside (tables k) (faults k) desks) status)
+    subst (λ (k : K). EndsServing (MayTell tables) tells (desks_outside (tables keeper) (faults keeper) desks) (desks_outside (tables k) (faults k) desks) status)
     (sym same) (ends_so refusal refused stays rose is)
   where
-    ends_so : (f : OpenFault K) → IsRefused limits tables f → Stays (tables keeper) (tables (keeper_back f))
+    ends_so : (f : OpenFault K) → IsRefused limits tables f → TablesStay (tables keeper) (tables (keeper_back f))
         → FaultRose (faults keeper) (faults (keeper_back f)) f → status ≡ fault_status f
-        → EndsServing (MayTell tables) tells (outside (tables keeper) (faults keeper) desks)
-        (outside (tables (keeper_back f)) (faults (keeper_back f)) desks) status
+        → EndsServing (MayTell tables) tells (desks_outside (tables keeper) (faults keeper) desks)
+        (desks_outside (tables (keeper_back f)) (faults (keeper_back f)) desks) status
     ends_so (fault.KeeperFault back') refused stays rose is = inr (inr (inl (is, stays, rose)))
     ends_so (fault.StoreDamaged back' damage) refused stays rose is = inr (inr (inr (inr (
       is,
@@ -63,15 +63,15 @@ refused_meant (fault.NoMemory back) is = omega (arith, is)
 -- the store was opened, and the office served and closed, or memory to serve it ran out
 pub ends_opened : {K L : Type 0} (tables : K → Option KeptTables) (faults : K → ℕ) (tells : LineTells L) (keeper back : K) (office : KeptOffice K)
     (desks desks_now : List (DeskState L)) (status : ℕ) → office.office.limits ≡ standard → Legal office.office → Keeps (tables office.keeper) office.office
-    → Stays (tables keeper) (tables office.keeper) → faults office.keeper ≡ faults keeper
+    → TablesStay (tables keeper) (tables office.keeper) → faults office.keeper ≡ faults keeper
     → {B : Type 0} → ((status ≡ 6) × (back ≡ office.keeper) × B) ⊎ ClosesOffice tables faults tells office desks back desks_now status
-    → EndsServing (MayTell tables) tells (outside (tables keeper) (faults keeper) desks) (outside (tables back) (faults back) desks_now) status
+    → EndsServing (MayTell tables) tells (desks_outside (tables keeper) (faults keeper) desks) (desks_outside (tables back) (faults back) desks_now) status
 ends_opened {K} tables faults tells keeper back office desks desks_now status limits legal keeps stays same (inl (six, is, unserved)) =
-    let S : K → Type 0 = λ k. Stays (tables keeper) (tables k) in
+    let S : K → Type 0 = λ k. TablesStay (tables keeper) (tables k) in
     inr (inr (inr (inl (six, subst S (sym is) stays, ap faults is ∙ same))))
 ends_opened {K} tables faults tells keeper back office desks desks_now status limits legal keeps stays same (inr (last, end, serves, kept, untold, is)) =
-    let before = outside (tables keeper) (faults keeper) desks in
-    let after = outside (tables back) (faults back) desks_now in
+    let before = desks_outside (tables keeper) (faults keeper) desks in
+    let after = desks_outside (tables back) (faults back) desks_now in
     ends_at (MayTell tables) tells before after status end (record {
       first = office.office;
       last = last;

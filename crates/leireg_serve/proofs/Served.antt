@@ -9,7 +9,7 @@ use Rattle.turnstile.specs.Passes.{AreNew, AreOf, HaveAll, new_pass}
 use Rattle.lei_hall.specs.Calling.{IsSamePass}
 use Rattle.lei_hall.specs.Passes.{HallPass}
 use Rattle.leireg_serve.specs.Desks.{DeskState, LineTells, ServedDesk, ServesDesk, ServesDesks}
-use Rattle.leireg_serve.specs.Workers.{IsReady, Works}
+use Rattle.leireg_serve.specs.Workers.{IsReadyWorker, Works}
 use Rattle.leireg_serve.specs.declared.desk.Desk.{Desk}
 use Rattle.leireg_serve.specs.declared.desk.DeskEnd.{DeskEnd}
 use Rattle.leireg_serve.specs.declared.workers.Worker.{Worker}
@@ -35,8 +35,8 @@ tail_same {A} x y xs ys same = ap rest same
 pub ready_all : {D C : Type 0} (out : D → Bool) (table : TableId) (router : Routes) (workers : List (Worker D C)) (passes : List HallPass)
     → router ≡ routes → All (λ worker. worker.router.now ≡ router) workers
     → All (λ desk. out desk.door ≡ false) (map (λ worker. worker.desk) workers) → map (λ worker. worker.pass) workers ≡ map Some passes
-    → AreOf table passes → All (IsReady out table) workers
-ready_all out table router [] passes all same doors are of = All-nil (IsReady out table)
+    → AreOf table passes → All (IsReadyWorker out table) workers
+ready_all out table router [] passes all same doors are of = All-nil (IsReadyWorker out table)
 ready_all {D} {C} out table router (worker ∷ workers) [] all same doors are of = absurd (uneven (ap length are))
   where
     uneven : length (map (λ (w : Worker D C). w.pass) (worker ∷ workers)) ≡ 0 → ⊥
@@ -48,7 +48,7 @@ ready_all {D} {C} out table router (worker ∷ workers) (pass ∷ passes) all sa
     let others = map (λ (w : Worker D C). w.pass) workers in
     let has : worker.pass ≡ Some pass = head_same worker.pass (Some pass) others (map Some passes) are in
     let rest = tail_same worker.pass (Some pass) others (map Some passes) are in
-    All-cons (IsReady out table) worker workers (
+    All-cons (IsReadyWorker out table) worker workers (
       All-head R worker workers same ∙ all,
       subst (λ (o : Option HallPass). IsSomeAnd o T) (sym has) (All-head T pass passes of),
       All-head O worker.desk (map (λ (w : Worker D C). w.desk) workers) doors,

@@ -2,7 +2,7 @@
 use Rattle.std.specs.Prelude.{◌≡◌, ◌⊎◌, ℕ, List, [], ◌∷◌, map, Option, IfSome}
 use Rattle.atomic_table.specs.Seated.{TableId}
 use Rattle.lei_outside.specs.Count.{Rose}
-use Rattle.lei_outside.specs.Keeping.{KeptTables, Stays}
+use Rattle.lei_outside.specs.Keeping.{KeptTables, TablesStay}
 use Rattle.register_words.specs.Limits.{standard}
 use Rattle.register_history.specs.Damage.{IsDamage}
 use Rattle.register_history.specs.Kept.{Keeps, StaysUntold}
@@ -20,14 +20,14 @@ use Rattle.leireg_serve.specs.declared.desk.DeskEnd.{DeskEnd}
 
 -- What the keeper and the desks tell at one time: what is kept, how many calls of the keeper have failed, and what each
 -- desk tells.
-pub record Outside (L : Type 0) : Type 0 where
+pub record DesksOutside (L : Type 0) : Type 0 where
   pub kept : Option KeptTables
   pub faults : ℕ
   pub desks : List (DeskState L)
 
 -- The outside of these.
-abbrev pub outside : {L : Type 0} → Option KeptTables → ℕ → List (DeskState L) → Outside L
-outside kept faults desks = record { kept = kept; faults = faults; desks = desks }
+abbrev pub desks_outside : {L : Type 0} → Option KeptTables → ℕ → List (DeskState L) → DesksOutside L
+desks_outside kept faults desks = record { kept = kept; faults = faults; desks = desks }
 
 -- How several desks ended: closed if all are closed, and failed otherwise.
 abbrev pub joint_end : List DeskEnd → DeskEnd
@@ -52,7 +52,7 @@ pub record ServesHall {L : Type 0} (tells : LineTells L) (opened : OfficeState) 
 -- The store was opened, all desks were served starting from the office that was opened, and the keeper has what the
 -- last office has taken.
 pub record OpensAndServes {L : Type 0} (may : Option KeptTables → Type 0) (tells : LineTells L)
-    (before after : Outside L) (end : DeskEnd) : Type 0 where
+    (before after : DesksOutside L) (end : DeskEnd) : Type 0 where
   pub first : OfficeState
   pub last : OfficeState
   pub opened : Opens may before.kept after.kept first
@@ -63,14 +63,14 @@ pub record OpensAndServes {L : Type 0} (may : Option KeptTables → Type 0) (tel
 -- served, and a door failed. With any other status the store wasn't opened, and the keeper has what it had. With 5 a
 -- call of it failed, and with 6 and 7 none did. Status 6: memory ran out. Status 7: what the keeper has isn't what a
 -- history leaves.
-abbrev pub EndsServing : {L : Type 0} → (Option KeptTables → Type 0) → LineTells L → Outside L
-    → Outside L → ℕ → Type 0
+abbrev pub EndsServing : {L : Type 0} → (Option KeptTables → Type 0) → LineTells L → DesksOutside L
+    → DesksOutside L → ℕ → Type 0
 EndsServing may tells before after status =
     ((status ≡ 0) × OpensAndServes may tells before after DeskEnd.Closed)
     ⊎ ((status ≡ 9) × OpensAndServes may tells before after DeskEnd.Failed)
-    ⊎ ((status ≡ 5) × Stays before.kept after.kept × Rose before.faults after.faults)
-    ⊎ ((status ≡ 6) × Stays before.kept after.kept × (after.faults ≡ before.faults))
-    ⊎ ((status ≡ 7) × Stays before.kept after.kept × (after.faults ≡ before.faults)
+    ⊎ ((status ≡ 5) × TablesStay before.kept after.kept × Rose before.faults after.faults)
+    ⊎ ((status ≡ 6) × TablesStay before.kept after.kept × (after.faults ≡ before.faults))
+    ⊎ ((status ≡ 7) × TablesStay before.kept after.kept × (after.faults ≡ before.faults)
     × ((damage : Damage) × IfSome after.kept (λ tables. IsDamage standard tables damage)))
 
 -- With this status no line was served: the words have no meaning, or the store wasn't opened.

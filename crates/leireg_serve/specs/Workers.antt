@@ -8,15 +8,15 @@ use Rattle.leireg_serve.specs.declared.workers.Supplies.{Supplies}
 use Rattle.leireg_serve.specs.declared.workers.Worker.{Worker}
 
 -- There is a router of all routes, and room for this many workers and for what they leave.
-abbrev pub HasRoom : {D C : Type 0} → ℕ → Supplies D C → Type 0
-HasRoom count supplies = (supplies.router.now ≡ routes)
+abbrev pub HasRoomForWorkers : {D C : Type 0} → ℕ → Supplies D C → Type 0
+HasRoomForWorkers count supplies = (supplies.router.now ≡ routes)
     × (supplies.workers.items ≡ []) × (count ≤ vec_capacity supplies.workers)
     × (supplies.desks.items ≡ []) × (count ≤ vec_capacity supplies.desks)
     × (supplies.passes.items ≡ []) × (count ≤ vec_capacity supplies.passes)
 
 -- A worker has a router of all routes and a pass of this hall, and no line is out of its door.
-abbrev pub IsReady : {D C : Type 0} → (D → Bool) → TableId → Worker D C → Type 0
-IsReady out table worker = (worker.router.now ≡ routes) × IsSomeAnd worker.pass (λ pass. pass.table ≡ table)
+abbrev pub IsReadyWorker : {D C : Type 0} → (D → Bool) → TableId → Worker D C → Type 0
+IsReadyWorker out table worker = (worker.router.now ≡ routes) × IsSomeAnd worker.pass (λ pass. pass.table ≡ table)
     × (out worker.desk.door ≡ false)
 
 -- A worker served the lines of its desk by its pass.

@@ -72,7 +72,8 @@ fn serve_line<R: Threads + Wait + Sync, K: Keeper, D: Door, C: Clock, G: Gate>(
     ensures served { (back : D.Line)
         × TakesBack (D.came_back desk.old.door) (D.came_back desk.new.door) back
         × ServesLine (line_tells D.Line.left D.Line.written D.Line.read_faults D.Line.write_faults)
-        (stage caller.old (C.given desk.old.clock)) line back result (stage caller.new (C.given desk.new.clock)) }
+        (stage caller.old (C.given desk.old.clock)) line back result
+        (stage caller.new (C.given desk.new.clock)) }
     ensures out { D.out desk.new.door ≡ false }
     ensures to_come { D.to_come desk.new.door ≡ D.to_come desk.old.door }
     ensures kept { D.faults desk.new.door ≡ D.faults desk.old.door }

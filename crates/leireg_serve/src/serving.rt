@@ -4,9 +4,9 @@ ghost use Rattle.http_heads.specs.Routes.{routes};
 ghost use Rattle.lei_office.specs.Offices.{keeper_back};
 ghost use Rattle.leireg_run.specs.Ends.{MayTell};
 ghost use Rattle.leireg_serve.specs.Desks.{desk_state, line_tells};
-ghost use Rattle.leireg_serve.specs.Ends.{ClosesOffice, EndsServing, IsUnserved, desk_status, fault_status, outside};
-ghost use Rattle.leireg_serve.specs.Words.{Mean, served_by};
-ghost use Rattle.leireg_serve.specs.Workers.{HasRoom};
+ghost use Rattle.leireg_serve.specs.Ends.{ClosesOffice, EndsServing, IsUnserved, desk_status, desks_outside, fault_status};
+ghost use Rattle.leireg_serve.specs.Words.{MeanServing, served_by};
+ghost use Rattle.leireg_serve.specs.Workers.{HasRoomForWorkers};
 ghost use Rattle.program_words.specs.Words.{Meant};
 
 use crate::desk::{Desk, DeskEnd};
@@ -42,18 +42,19 @@ pub fn serve<
 ) -> (u8, K, Vec<Desk<D, C>>)
 where
     D::Line: Send,
-    requires desks { (what : Meant) → Mean words.now what → length desks.items ≡ what.workers }
-    requires doors { (what : Meant) → Mean words.now what → All (λ desk. D.out desk.door ≡ false) desks.items }
+    requires desks { (what : Meant) → MeanServing words.now what → length desks.items ≡ what.workers }
+    requires doors { (what : Meant) → MeanServing words.now what
+        → All (λ desk. D.out desk.door ≡ false) desks.items }
     ensures usage { result.0 ≡ 1 → served_by (map string_bytes words.now) ≡ None }
     ensures refused { served_by (map string_bytes words.now) ≡ None → (result.0 ≡ 1) ⊎ (result.0 ≡ 6) }
     ensures unserved { IsUnserved result.0 → result.2.items ≡ desks.items }
     ensures unkept { served_by (map string_bytes words.now) ≡ None
         → (result.1 ≡ keeper) × (result.2.items ≡ desks.items) }
-    ensures serves { (what : Meant) → Mean words.now what → EndsServing (MayTell K.tables)
+    ensures serves { (what : Meant) → MeanServing words.now what → EndsServing (MayTell K.tables)
         (line_tells D.Line.left D.Line.written D.Line.read_faults D.Line.write_faults)
-        (outside (K.tables keeper) (K.faults keeper)
+        (desks_outside (K.tables keeper) (K.faults keeper)
         (map (desk_state D.to_come D.came_back D.out D.faults C.given) desks.items))
-        (outside (K.tables result.1) (K.faults result.1)
+        (desks_outside (K.tables result.1) (K.faults result.1)
         (map (desk_state D.to_come D.came_back D.out D.faults C.given) result.2.items))
         result.0 }
 {
@@ -78,9 +79,9 @@ where
     requires doors { All (λ desk. D.out desk.door ≡ false) desks.items }
     ensures ends { EndsServing (MayTell K.tables)
         (line_tells D.Line.left D.Line.written D.Line.read_faults D.Line.write_faults)
-        (outside (K.tables keeper) (K.faults keeper)
+        (desks_outside (K.tables keeper) (K.faults keeper)
         (map (desk_state D.to_come D.came_back D.out D.faults C.given) desks.items))
-        (outside (K.tables result.1) (K.faults result.1)
+        (desks_outside (K.tables result.1) (K.faults result.1)
         (map (desk_state D.to_come D.came_back D.out D.faults C.given) result.2.items))
         result.0 }
     ensures unserved { IsUnserved result.0 → result.2.items ≡ desks.items }
@@ -115,12 +116,12 @@ where
     D::Line: Send,
     requires count { (1 ≤ length desks.items) × (length desks.items ≤ 64) }
     requires doors { All (λ desk. D.out desk.door ≡ false) desks.items }
-    requires room { HasRoom (length desks.items) supplies }
+    requires room { HasRoomForWorkers (length desks.items) supplies }
     ensures ends { EndsServing (MayTell K.tables)
         (line_tells D.Line.left D.Line.written D.Line.read_faults D.Line.write_faults)
-        (outside (K.tables keeper) (K.faults keeper)
+        (desks_outside (K.tables keeper) (K.faults keeper)
         (map (desk_state D.to_come D.came_back D.out D.faults C.given) desks.items))
-        (outside (K.tables result.1) (K.faults result.1)
+        (desks_outside (K.tables result.1) (K.faults result.1)
         (map (desk_state D.to_come D.came_back D.out D.faults C.given) result.2.items))
         result.0 }
     ensures unserved { IsUnserved result.0 → result.2.items ≡ desks.items }
@@ -129,14 +130,14 @@ where
     match Office::open(rt, alloc, keeper, Limits::standard()) {
         Ok(office) => serve_office(rt, alloc, office, desks, gate, supplies),
         Err(fault) => {
-            let (status, keeper) = refused(fault);
+            let (status, keeper) = refusal_end(fault);
             (status, keeper, desks)
         }
     }
 }
 
 // The status of a refusal to open a store, and the keeper that is returned.
-fn refused<K: Keeper>(fault: OpenFault<K>) -> (u8, K)
+fn refusal_end<K: Keeper>(fault: OpenFault<K>) -> (u8, K)
     ensures status { result.0 ≡ fault_status fault }
     ensures back { result.1 ≡ keeper_back fault }
 {
@@ -168,7 +169,7 @@ where
     D::Line: Send,
     requires count { (1 ≤ length desks.items) × (length desks.items ≤ 64) }
     requires doors { All (λ desk. D.out desk.door ≡ false) desks.items }
-    requires room { HasRoom (length desks.items) supplies }
+    requires room { HasRoomForWorkers (length desks.items) supplies }
     ensures { ((result.0 ≡ 6) × (result.1 ≡ office.keeper) × (result.2.items ≡ desks.items))
         ⊎ ClosesOffice K.tables K.faults
         (line_tells D.Line.left D.Line.written D.Line.read_faults D.Line.write_faults) office

@@ -5,7 +5,7 @@ ghost use Rattle.std.specs.Thread.{IsSync};
 ghost use Rattle.http_heads.specs.Routes.{routes};
 ghost use Rattle.leireg_serve.specs.Desks.{desk_state, line_tells};
 ghost use Rattle.leireg_serve.specs.Ends.{joint_end};
-ghost use Rattle.leireg_serve.specs.Workers.{HasRoom, IsReady, Works};
+ghost use Rattle.leireg_serve.specs.Workers.{HasRoomForWorkers, IsReadyWorker, Works};
 ghost use Rattle.leireg_serve.specs.declared.workers.Worker.{Worker};
 
 use crate::desk::{Desk, DeskEnd, serve_desk};
@@ -45,7 +45,7 @@ impl<'a, D: Drop, C: Drop> Supplies<'a, D, C> {
     /// The supplies of this many workers.
     pub fn of(alloc: Global, router: &'a Router<Place>, count: usize) -> Result<Self, NoMemory>
         requires { router.now ≡ routes }
-        ensures { IfOk result (HasRoom count) }
+        ensures { IfOk result (HasRoomForWorkers count) }
     {
         Ok(Supplies {
             router,
@@ -103,7 +103,7 @@ pub fn serve_all<
 ) -> Vec<Worker<'a, D, C>>
 where
     D::Line: Send,
-    requires { All (IsReady D.out hall.now.table) workers.items }
+    requires { All (IsReadyWorker D.out hall.now.table) workers.items }
     ensures { AllZip (Works (line_tells D.Line.left D.Line.written D.Line.read_faults D.Line.write_faults)
         (desk_state D.to_come D.came_back D.out D.faults C.given)) workers.entry.items result.items }
 {
@@ -122,7 +122,7 @@ fn serve_each<
 >(rt: &R, alloc: Global, hall: &Hall<K>, gate: &G, workers: &mut [Worker<'a, D, C>])
 where
     D::Line: Send,
-    requires { All (IsReady D.out hall.now.table) workers.old }
+    requires { All (IsReadyWorker D.out hall.now.table) workers.old }
     ensures count { length workers.new ≡ length workers.old }
     ensures each { (k : ℕ) (d : Worker D C) → k < length workers.old
         → Works (line_tells D.Line.left D.Line.written D.Line.read_faults D.Line.write_faults)
@@ -134,7 +134,7 @@ where
         workers,
         MOST_WORKERS,
         &|_: usize, worker: &mut Worker<'_, D, C>|
-            requires { IsSync R.row × IsReady D.out hall.now.table worker.old }
+            requires { IsSync R.row × IsReadyWorker D.out hall.now.table worker.old }
             ensures { Works (line_tells D.Line.left D.Line.written D.Line.read_faults D.Line.write_faults)
                 (desk_state D.to_come D.came_back D.out D.faults C.given) worker.old worker.new }
         { serve_worker(rt, alloc, hall, gate, worker) },
@@ -149,7 +149,7 @@ fn serve_worker<R: Threads + Wait + Sync, K: Keeper, D: Door, C: Clock, G: Gate>
     gate: &G,
     worker: &mut Worker<'_, D, C>,
 )
-    requires { IsReady D.out hall.now.table worker.old }
+    requires { IsReadyWorker D.out hall.now.table worker.old }
     ensures { Works (line_tells D.Line.left D.Line.written D.Line.read_faults D.Line.write_faults)
         (desk_state D.to_come D.came_back D.out D.faults C.given) worker.old worker.new }
 {
@@ -172,7 +172,8 @@ pub fn take_apart<'a, D: Drop, C: Drop>(
     requires passes { All (λ worker. IsSome worker.pass) workers.items }
     requires no_desks { desks.items ≡ [] }
     requires no_passes { passes.items ≡ [] }
-    requires room { (length workers.items ≤ vec_capacity desks) × (length workers.items ≤ vec_capacity passes) }
+    requires room { (length workers.items ≤ vec_capacity desks)
+        × (length workers.items ≤ vec_capacity passes) }
     ensures desks { result.0.items ≡ map (λ worker. worker.desk) workers.entry.items }
     ensures passes { map Some result.1.items ≡ map (λ worker. worker.pass) workers.entry.items }
     ensures end { result.2 ≡ joint_end (map (λ worker. worker.end) workers.entry.items) }

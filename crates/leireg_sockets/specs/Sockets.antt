@@ -1,6 +1,6 @@
 -- Connections over a stream, and the door that they come through, as contracts see them.
 use Rattle.std.specs.Prelude.{◌≡◌, ◌<◌, ◌-◌, ◌⊎◌, ℕ, Bool, false, true, Option, None, Some, Result, Ok, Err}
-use Rattle.lei_outside.specs.Count.{counted}
+use Rattle.lei_outside.specs.Count.{count_up}
 use Rattle.lei_outside.specs.declared.door.Came.{Came}
 
 -- A link over a stream: the stream, and how many reads and writes have failed.
@@ -26,15 +26,15 @@ Waits door (Err fault) = (door.listens ≡ false) ⊎ (0 < door.to_give)
 
 -- What a door's call does to it. It gave one of its lines, which is out now. Or it is closed, exactly if it has a
 -- listener and gave all its lines. Or the call failed, which is counted.
-abbrev pub Gives : {L : Type 0} → ListenerState → Came L → ListenerState → Type 0
-Gives old (Came.Line line) new = (old.listens ≡ true) × (0 < old.to_give)
+abbrev pub GivesLine : {L : Type 0} → ListenerState → Came L → ListenerState → Type 0
+GivesLine old (Came.Line line) new = (old.listens ≡ true) × (0 < old.to_give)
     × (new ≡ record old { to_give = old.to_give - 1; out = true })
-Gives old Came.Closed new = (old.listens ≡ true) × (old.to_give ≡ 0) × (new ≡ old)
-Gives old Came.Failed new = ((old.listens ≡ false) ⊎ (0 < old.to_give))
-    × (new ≡ record old { faults = counted old.faults })
+GivesLine old Came.Closed new = (old.listens ≡ true) × (old.to_give ≡ 0) × (new ≡ old)
+GivesLine old Came.Failed new = ((old.listens ≡ false) ⊎ (0 < old.to_give))
+    × (new ≡ record old { faults = count_up old.faults })
 
 -- A line that came has not failed yet.
-abbrev pub IsNew : {S : Type 0} → Came (StreamState S) → Type 0
-IsNew (Came.Line line) = (line.read_faults ≡ 0) × (line.write_faults ≡ 0)
-IsNew Came.Closed = Unit {0}
-IsNew Came.Failed = Unit {0}
+abbrev pub IsNewStream : {S : Type 0} → Came (StreamState S) → Type 0
+IsNewStream (Came.Line line) = (line.read_faults ≡ 0) × (line.write_faults ≡ 0)
+IsNewStream Came.Closed = Unit {0}
+IsNewStream Came.Failed = Unit {0}

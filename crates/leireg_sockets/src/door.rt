@@ -2,7 +2,7 @@
 ghost use Rattle.std.specs.Prelude.{◌≡◌, ◌≤◌, None, true, false, is_some};
 ghost use Rattle.lei_outside.specs.Count.{Rose};
 ghost use Rattle.lei_outside.specs.Doors.{Comes, IsFailed, is_line};
-ghost use Rattle.leireg_sockets.specs.Sockets.{Gives, IsNew, ListenerState, Waits};
+ghost use Rattle.leireg_sockets.specs.Sockets.{GivesLine, IsNewStream, ListenerState, Waits};
 
 use crate::{Deadlines, Operator, StreamLink};
 use lei_outside::{Came, Door, Failed};
@@ -91,8 +91,8 @@ impl<'a, R: Clock, O: Operator> Door for TcpDoor<'a, R, O> {
         ensures count { self.old.faults ≤ self.new.faults }
         ensures kept { ¬ (IsFailed result) → self.new.faults ≡ self.old.faults }
         ensures failed { IsFailed result → Rose self.old.faults self.new.faults }
-        ensures gives { Gives self.old result self.new }
-        ensures new { IsNew result }
+        ensures gives { GivesLine self.old result self.new }
+        ensures new { IsNewStream result }
     {
         match self.wait() {
             Ok(Some(stream)) => {

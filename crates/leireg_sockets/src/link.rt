@@ -1,7 +1,7 @@
 //! Links over streams.
 ghost use Rattle.std.specs.Io.KnownBytes.{ReadConsumes, WriteAppends};
 ghost use Rattle.std.specs.Prelude.{◌≡◌, ◌≤◌, ◌<◌, None, length, IfOk, IfErr, OnOk, OnErr, IsErrOf};
-ghost use Rattle.lei_outside.specs.Count.{Rose, counted};
+ghost use Rattle.lei_outside.specs.Count.{Rose, count_up};
 ghost use Rattle.lei_outside.specs.Told.{Reads, Writes};
 ghost use Rattle.leireg_sockets.specs.Sockets.{StreamState};
 
@@ -74,7 +74,7 @@ impl<'a, R: Clock, S: Read + Write> Link for StreamLink<'a, R, S> {
         ensures count { self.old.read_faults ≤ self.new.read_faults }
         ensures kept { OnOk result (self.new.read_faults ≡ self.old.read_faults) }
         ensures failed { OnErr result (Rose self.old.read_faults self.new.read_faults) }
-        ensures exact { OnErr result (self.new.read_faults ≡ counted self.old.read_faults) }
+        ensures exact { OnErr result (self.new.read_faults ≡ count_up self.old.read_faults) }
         ensures writes { self.new.write_faults ≡ self.old.write_faults }
         ensures stream { ReadConsumes (S.remaining self.old.stream) (S.remaining self.new.stream)
             result buffer.new }
@@ -95,7 +95,7 @@ impl<'a, R: Clock, S: Read + Write> Link for StreamLink<'a, R, S> {
         ensures kept { ¬ (IsErrOf result SinkFault.Failed) → self.new.write_faults ≡ self.old.write_faults }
         ensures failed { IsErrOf result SinkFault.Failed → Rose self.old.write_faults self.new.write_faults }
         ensures exact { IfErr result (λ fault.
-            (fault ≡ SinkFault.Failed) × (self.new.write_faults ≡ counted self.old.write_faults)) }
+            (fault ≡ SinkFault.Failed) × (self.new.write_faults ≡ count_up self.old.write_faults)) }
         ensures reads { self.new.read_faults ≡ self.old.read_faults }
         ensures stream { WriteAppends (S.contents self.old.stream) (S.contents self.new.stream)
             result piece.now }

@@ -10,10 +10,10 @@ use Rattle.register_words.specs.declared.request.Request.TheVariants as requests
 use Rattle.request_loop.specs.Frames.{AreMeant, IsMeant, ReadsWhole}
 use Rattle.request_loop.specs.declared.frames.Want.{Want}
 use Rattle.line_reading.specs.Limits.{line_limit}
-use Rattle.line_reading.specs.Lines.{Ends, HasNoEnd, Line, line_of}
-use Rattle.line_reading.specs.LineFrames.{Holds, IsLine, IsReadOf, line_rules, want_of, wanted}
+use Rattle.line_reading.specs.Lines.{HasNoEnd, IsCutAtEnd, Line, line_of}
+use Rattle.line_reading.specs.LineFrames.{HoldsLines, IsLine, IsReadOf, line_rules, want_for, want_of_line}
 use Rattle.line_reading.specs.Replies.{asks_file, reply_bytes, reply_text}
-use Rattle.line_reading.specs.Requests.{asked, asked_in, cut}
+use Rattle.line_reading.specs.Requests.{asked_when_cut, cut_at_space, line_asks}
 use Rattle.line_reading.specs.declared.framing.NoEnd.{NoEnd}
 use Rattle.line_reading.proofs.LineLemmas.{HasNoEnd-append, HasNoEnd-nil, length-line_of}
 use Rattle.line_reading.proofs.Lined.{Frame, wants_asked}
@@ -43,38 +43,38 @@ pub text_same : (what : Asked) (reply : Reply) → MayWantMemory what
     → reply_text (Refuse NoMemory) reply ≡ reply_text what reply
 text_same what reply wants = ap (reply_bytes reply) (sym (no_file what wants))
 
-memory_meant : (what : Asked) → MayWantMemory what → IsMeant line_rules (wanted what) (wanted (Refuse NoMemory))
+memory_meant : (what : Asked) → MayWantMemory what → IsMeant line_rules (want_for what) (want_for (Refuse NoMemory))
 memory_meant what wants = record { asked = inr (wants, refl); ends = refl; text = λ reply. text_same what reply wants }
 
-pub are_meant : (line : Line) (frame : Frame) → IsReadOf line frame → AreMeant line_rules (want_of line) frame
-are_meant line frame (inl same) = let M : Frame → Type 0 = λ read. AreMeant line_rules (want_of line) read in
-    subst M (sym same) (same_meant (want_of line))
+pub are_meant : (line : Line) (frame : Frame) → IsReadOf line frame → AreMeant line_rules (want_of_line line) frame
+are_meant line frame (inl same) = let M : Frame → Type 0 = λ read. AreMeant line_rules (want_of_line line) read in
+    subst M (sym same) (same_meant (want_of_line line))
 are_meant line frame (inr read) =
-    let M : Frame → Type 0 = λ meant. AreMeant line_rules meant (Some (wanted (Refuse NoMemory))) in
-    let R : Frame → Type 0 = λ read. AreMeant line_rules (want_of line) read in
-    subst R (sym read.2) (subst M (sym (wants_asked line read.0)) (memory_meant (asked line) read.1))
+    let M : Frame → Type 0 = λ meant. AreMeant line_rules meant (Some (want_for (Refuse NoMemory))) in
+    let R : Frame → Type 0 = λ read. AreMeant line_rules (want_of_line line) read in
+    subst R (sym read.2) (subst M (sym (wants_asked line read.0)) (memory_meant (line_asks line) read.1))
 
 -- ---- a line is whole
 
 -- of the bytes after the line, all are held and none was searched
-pub holds_rest : (rest : List ℕ) → Holds false 0 rest rest
+pub holds_rest : (rest : List ℕ) → HoldsLines false 0 rest rest
 holds_rest rest = (refl, omega arith, HasNoEnd-nil)
 
 pub reads_line : (skips : Bool) (held bytes waiting : List ℕ) (seen searched end : ℕ) (line : Line) (frame : Frame)
-    → skips ≡ false → Holds skips seen held bytes → waiting ≡ [] → end < length held → (seen ≤ length held → searched ≡ seen)
-    → (HasNoEnd (take searched held) → Ends held (take end held) (drop (end + 1) held)) → line ≡ line_of (take end held)
-    → IsReadOf line frame → ReadsWhole line_rules (Holds skips 0) bytes held waiting frame (end + 1)
+    → skips ≡ false → HoldsLines skips seen held bytes → waiting ≡ [] → end < length held → (seen ≤ length held → searched ≡ seen)
+    → (HasNoEnd (take searched held) → IsCutAtEnd held (take end held) (drop (end + 1) held)) → line ≡ line_of (take end held)
+    → IsReadOf line frame → ReadsWhole line_rules (HoldsLines skips 0) bytes held waiting frame (end + 1)
 reads_line true held bytes waiting seen searched end line frame is holds waits within same ends line_is read = cc
 reads_line false held bytes waiting seen searched end line frame is holds waits within same ends line_is read =
     let N : ℕ → Type 0 = λ n. HasNoEnd (take n held) in
     let unseen : HasNoEnd (take searched held) = subst N (sym (same holds.1)) holds.2 in
     let rest = drop (end + 1) held in
-    let W : List ℕ → Type 0 = λ xs. IsLine xs (want_of line) rest in
+    let W : List ℕ → Type 0 = λ xs. IsLine xs (want_of_line line) rest in
     record {
       within = omega (arith, within);
       some = λ _. omega arith;
-      meant = want_of line;
-      whole = subst W holds.0 (take end held, ends unseen, ap want_of line_is);
+      meant = want_of_line line;
+      whole = subst W holds.0 (take end held, ends unseen, ap want_of_line line_is);
       are_meant = are_meant line frame read;
       holds = holds_rest rest;
       waits = waits;
@@ -82,27 +82,27 @@ reads_line false held bytes waiting seen searched end line frame is holds waits 
 
 -- ---- lines that are too long
 
-too_long : (line : Line) → line_limit < length line → asked line ≡ Refuse TooLong
-unfolding asked
+too_long : (line : Line) → line_limit < length line → line_asks line ≡ Refuse TooLong
+unfolding line_asks
 too_long line long =
     let is : ltb line_limit (length line) ≡ true = grind (arith, nat_tests) in
-    ap (λ b. cond b (Refuse TooLong) (asked_in line (cut line))) is
+    ap (λ b. cond b (Refuse TooLong) (asked_when_cut line (cut_at_space line))) is
 
-pub long_wants : (line : Line) → line_limit < length line → want_of line ≡ Some (wanted (Refuse TooLong))
-long_wants line long = wants_asked line (omega (arith, long)) ∙ ap (λ what. Some (wanted what)) (too_long line long)
+pub long_wants : (line : Line) → line_limit < length line → want_of_line line ≡ Some (want_for (Refuse TooLong))
+long_wants line long = wants_asked line (omega (arith, long)) ∙ ap (λ what. Some (want_for what)) (too_long line long)
 
 -- the last line, whose first bytes were dropped
 pub long_last : (skips : Bool) (seen : ℕ) (held bytes : List ℕ) (want : Want Asked NoEnd) → skips ≡ true
-    → want ≡ wanted (Refuse TooLong) → Holds skips seen held bytes → IsReadOf bytes (Some want)
+    → want ≡ want_for (Refuse TooLong) → HoldsLines skips seen held bytes → IsReadOf bytes (Some want)
 long_last true seen held bytes want is refused (dropped, parts, none, long) =
     let size : line_limit < length bytes = omega (arith, ap length parts, length-append dropped held, long) in
     inl (ap Some refused ∙ sym (long_wants bytes size))
 long_last false seen held bytes want is refused holds = cc
 
 -- the end of a line that is too long
-pub long_ends : (seen : ℕ) (held bytes waiting : List ℕ) (end : ℕ) (want : Want Asked NoEnd) → Holds true seen held bytes
-    → Ends held (take end held) (drop (end + 1) held) → end < length held → want ≡ wanted (Refuse TooLong) → waiting ≡ []
-    → ReadsWhole line_rules (Holds false 0) bytes held waiting (Some want) (end + 1)
+pub long_ends : (seen : ℕ) (held bytes waiting : List ℕ) (end : ℕ) (want : Want Asked NoEnd) → HoldsLines true seen held bytes
+    → IsCutAtEnd held (take end held) (drop (end + 1) held) → end < length held → want ≡ want_for (Refuse TooLong) → waiting ≡ []
+    → ReadsWhole line_rules (HoldsLines false 0) bytes held waiting (Some want) (end + 1)
 long_ends seen held bytes waiting end want (dropped, parts, none, long) ends within refused waits =
     let rest = drop (end + 1) held in
     let part = dropped ++ take end held in

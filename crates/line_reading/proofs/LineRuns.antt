@@ -9,17 +9,17 @@ use Rattle.register_words.specs.declared.reply.Refusal.TheVariants.{NoMemory}
 use Rattle.register_words.specs.declared.reply.Reply.{Reply}
 use Rattle.register_words.specs.declared.request.Asked.{Asked}
 use Rattle.register_words.specs.declared.request.Asked.TheVariants.{Refuse}
-use Rattle.request_loop.specs.Frames.{Frames, GoesOn, asks_of, texts_of}
+use Rattle.request_loop.specs.Frames.{Frames, GoesOn, asks_of, bytes_of_replies}
 use Rattle.request_loop.specs.Serving.{AnswersAll, AnswersInPart, AnswersToEnd, Progress, Ran, Stopped}
 use Rattle.request_loop.specs.Sessions.{Session}
 use Rattle.request_loop.specs.declared.frames.Want.{Want}
 use Rattle.request_loop.proofs.FrameLists.{asks_join, frames_join, frames_one}
 use Rattle.request_loop.proofs.Sessions.{session-length}
-use Rattle.line_reading.specs.Lines.{Ends, HasNoEnd, IsClosed, Line, last_part, line_of, whole_part}
-use Rattle.line_reading.specs.LineFrames.{IsReadOf, line_rules, want_of, wanted}
+use Rattle.line_reading.specs.Lines.{HasNoEnd, IsClosed, IsCutAtEnd, Line, last_part, line_of, whole_part}
+use Rattle.line_reading.specs.LineFrames.{IsReadOf, line_rules, want_for, want_of_line}
 use Rattle.line_reading.specs.LineRuns.{AnsweredFront, AnsweredLines, AreTextsOf, asks_of_lines}
 use Rattle.line_reading.specs.Replies.{reply_text, reply_texts}
-use Rattle.line_reading.specs.Requests.{asked}
+use Rattle.line_reading.specs.Requests.{line_asks}
 use Rattle.line_reading.specs.declared.framing.NoEnd.{NoEnd}
 use Rattle.line_reading.proofs.LineFronts.{text_same}
 use Rattle.line_reading.proofs.LineLemmas.{HasNoEnd-last_part, IsClosed-append, IsClosed-whole_part, lines-closed, lines-end, lines-first, parts_of, whole_part-is}
@@ -31,21 +31,21 @@ asks_of_lines-append : (xs ys : List Line) → asks_of_lines (xs ++ ys) ≡ asks
 asks_of_lines-append [] ys = refl
 asks_of_lines-append (line ∷ xs) ys =
     elim (eqb (length line) 0)
-    as (λ b. cond b (asks_of_lines (xs ++ ys)) (asked line ∷ asks_of_lines (xs ++ ys)) ≡ cond b (asks_of_lines xs)
-    (asked line ∷ asks_of_lines xs) ++ asks_of_lines ys) [
+    as (λ b. cond b (asks_of_lines (xs ++ ys)) (line_asks line ∷ asks_of_lines (xs ++ ys)) ≡ cond b (asks_of_lines xs)
+    (line_asks line ∷ asks_of_lines xs) ++ asks_of_lines ys) [
       | true ↦ asks_of_lines-append xs ys
-      | false ↦ ap (λ asks. asked line ∷ asks) (asks_of_lines-append xs ys)
+      | false ↦ ap (λ asks. line_asks line ∷ asks) (asks_of_lines-append xs ys)
     ]
 
 asks_first : (is_empty : Bool) (line : Line) (asks : List Asked) (frames : List Frame) → asks ≡ asks_of frames
-    → cond is_empty asks (asked line ∷ asks) ≡ asks_of (cond is_empty None (Some (wanted (asked line))) ∷ frames)
+    → cond is_empty asks (line_asks line ∷ asks) ≡ asks_of (cond is_empty None (Some (want_for (line_asks line))) ∷ frames)
 asks_first true line asks frames same = same
-asks_first false line asks frames same = ap (λ xs. asked line ∷ xs) same
+asks_first false line asks frames same = ap (λ xs. line_asks line ∷ xs) same
 
 asks_last : (is_empty : Bool) (line : Line) → eqb (length line) 0 ≡ is_empty
-    → asks_of_lines (cond is_empty [] (line ∷ [])) ≡ asks_of (cond is_empty None (Some (wanted (asked line))) ∷ [])
+    → asks_of_lines (cond is_empty [] (line ∷ [])) ≡ asks_of (cond is_empty None (Some (want_for (line_asks line))) ∷ [])
 asks_last true line is = refl
-asks_last false line is = ap (λ (b : Bool). cond b [] (asked line ∷ [])) is
+asks_last false line is = ap (λ (b : Bool). cond b [] (line_asks line ∷ [])) is
 
 -- frames at the front of the bytes are whole lines
 record Lined (bytes : List ℕ) (frames : List Frame) (rest : List ℕ) : Type 0 where
@@ -94,7 +94,7 @@ lines-after bytes front rest parts closed =
 
 -- with the last line they are all lines
 asks_to_end : (bytes rest : List ℕ) (frames : List Frame) → Lined bytes frames rest → HasNoEnd rest
-    → asks_of_lines (lines bytes) ≡ asks_of (frames ++ want_of rest ∷ [])
+    → asks_of_lines (lines bytes) ≡ asks_of (frames ++ want_of_line rest ∷ [])
 asks_to_end bytes rest frames is none =
     let last = cond (eqb (length rest) 0) [] (rest ∷ []) in
     ap (λ xs. asks_of_lines (lines xs)) is.parts
@@ -102,11 +102,11 @@ asks_to_end bytes rest frames is none =
     ∙ (asks_of_lines-append (lines is.front) last
     ∙ (ap (λ xs. xs ++ asks_of_lines last) is.asks
     ∙ (ap (λ xs. asks_of frames ++ xs) (asks_last (eqb (length rest) 0) rest refl)
-    ∙ sym (asks_join frames (want_of rest ∷ []))))))
+    ∙ sym (asks_join frames (want_of_line rest ∷ []))))))
 
 -- ---- the texts of replies
 
-texts_are : (frames : List Frame) (replies : List Reply) → texts_of line_rules frames replies ≡ reply_texts (asks_of frames) replies
+texts_are : (frames : List Frame) (replies : List Reply) → bytes_of_replies line_rules frames replies ≡ reply_texts (asks_of frames) replies
 texts_are [] replies = refl
 texts_are (None ∷ frames) replies = texts_are frames replies
 texts_are (Some want ∷ frames) [] = refl
@@ -199,10 +199,10 @@ session_meant step old new (ask ∷ asks) meant read moments (reply ∷ replies)
 )
 
 abbrev no_memory : Frame
-no_memory = Some (wanted (Refuse NoMemory))
+no_memory = Some (want_for (Refuse NoMemory))
 
 texts_meant : (frames : List Frame) (what : Asked) (replies : List Reply) → MayWantMemory what
-    → texts_of line_rules (frames ++ no_memory ∷ []) replies ≡ texts_of line_rules (frames ++ Some (wanted what) ∷ []) replies
+    → bytes_of_replies line_rules (frames ++ no_memory ∷ []) replies ≡ bytes_of_replies line_rules (frames ++ Some (want_for what) ∷ []) replies
 texts_meant [] what [] wants = refl
 texts_meant [] what (reply ∷ replies) wants = ap (λ xs. xs ++ []) (text_same what reply wants)
 texts_meant (None ∷ frames) what replies wants = texts_meant frames what replies wants
@@ -212,16 +212,16 @@ texts_meant (Some want ∷ frames) what (reply ∷ replies) wants =
 
 asks_meant : {A : Type 0} (step : Steps A) (old new : A) (frames : List Frame) (what : Asked) (moments : List ℤ) (replies : List Reply)
     → SameSteps step → MayWantMemory what → Session step old (asks_of (frames ++ no_memory ∷ [])) moments replies new
-    → Session step old (asks_of (frames ++ Some (wanted what) ∷ [])) moments replies new
+    → Session step old (asks_of (frames ++ Some (want_for what) ∷ [])) moments replies new
 asks_meant step old new frames what moments replies same wants session =
     let S : List Asked → Type 0 = λ asks. Session step old asks moments replies new in
-    subst S (sym (asks_join frames (Some (wanted what) ∷ [])))
+    subst S (sym (asks_join frames (Some (want_for what) ∷ [])))
     (session_meant step old new (asks_of frames) what (Refuse NoMemory) moments replies same (wants, refl)
     (subst S (asks_join frames (no_memory ∷ [])) session))
 
 ran_meant : {A : Type 0} (step : Steps A) (start now : Progress A) (frames : List Frame) (what : Asked) → SameSteps step
     → MayWantMemory what → Ran step line_rules start (frames ++ no_memory ∷ []) now
-    → Ran step line_rules start (frames ++ Some (wanted what) ∷ []) now
+    → Ran step line_rules start (frames ++ Some (want_for what) ∷ []) now
 ran_meant step start now frames what same wants ran =
     let G : List ℕ → Type 0 = λ texts. Grows start.written now.written texts in
     record {
@@ -234,18 +234,18 @@ ran_meant step start now frames what same wants ran =
 
 ran_to_end : {A : Type 0} (step : Steps A) (start now : Progress A) (frames : List Frame) (rest : List ℕ) (frame : Frame)
     → SameSteps step → IsReadOf rest frame → Ran step line_rules start (frames ++ frame ∷ []) now
-    → Ran step line_rules start (frames ++ want_of rest ∷ []) now
+    → Ran step line_rules start (frames ++ want_of_line rest ∷ []) now
 ran_to_end step start now frames rest frame same (inl is) ran =
     let R : Frame → Type 0 = λ f. Ran step line_rules start (frames ++ f ∷ []) now in
     subst R is ran
 ran_to_end step start now frames rest frame same (inr read) ran =
     let R : Frame → Type 0 = λ f. Ran step line_rules start (frames ++ f ∷ []) now in
-    subst R (sym (wants_asked rest read.0)) (ran_meant step start now frames (asked rest) same read.1 (subst R read.2 ran))
+    subst R (sym (wants_asked rest read.0)) (ran_meant step start now frames (line_asks rest) same read.1 (subst R read.2 ran))
 
 pub answered_to_end : {A : Type 0} (step : Steps A) (start now : Progress A) (bytes : List ℕ) → SameSteps step
     → AnswersToEnd step line_rules start bytes now → AnsweredLines step start (lines bytes) now
 answered_to_end step start now bytes same (frames, rest, frame, are, none, ends, ran) =
-    ran_lines step start now (frames ++ want_of rest ∷ []) (lines bytes)
+    ran_lines step start now (frames ++ want_of_line rest ∷ []) (lines bytes)
     (asks_to_end bytes rest frames (lined frames bytes rest are) none)
     (ran_to_end step start now frames rest frame same ends ran)
 
@@ -282,8 +282,8 @@ stopped_front step start now frames want all front rest parts same stop =
 
 -- a prefix of the lines that have ended
 stopped_whole : {A : Type 0} (step : Steps A) (start now : Progress A) (bytes rest after : List ℕ) (frames : List Frame)
-    (want : Want Asked NoEnd) (part : List ℕ) → Frames line_rules bytes frames rest → Ends rest part after
-    → Some want ≡ want_of (line_of part) → Stopped step line_rules start frames want now
+    (want : Want Asked NoEnd) (part : List ℕ) → Frames line_rules bytes frames rest → IsCutAtEnd rest part after
+    → Some want ≡ want_of_line (line_of part) → Stopped step line_rules start frames want now
     → AnsweredFront step start (lines (whole_part bytes)) now
 stopped_whole step start now bytes rest after frames want part are ends is stop =
     let goes = let P : Frame → Type 0 = λ f. GoesOn f in subst P (sym is) (goes_on (line_of part)) in
@@ -295,15 +295,15 @@ stopped_whole step start now bytes rest after frames want part are ends is stop 
 
 stop_meant : {A : Type 0} (step : Steps A) (start now : Progress A) (frames : List Frame) (what : Asked) (want : Want Asked NoEnd)
     → SameSteps step → MayWantMemory what → Some want ≡ no_memory → Stopped step line_rules start frames want now
-    → Stopped step line_rules start frames (wanted what) now
+    → Stopped step line_rules start frames (want_for what) now
 stop_meant {A} step start now frames what want same wants is stop =
     let F : Want Asked NoEnd → Type 0 = λ w. Stopped step line_rules start frames w now in
-    let read : want ≡ wanted (Refuse NoMemory) = cc in
+    let read : want ≡ want_for (Refuse NoMemory) = cc in
     let then = subst F read stop in
     let text = text_same what then.reply wants in
     let L : List ℕ → Type 0 = λ xs. then.part < length xs in
     let G : List ℕ → Type 0 = λ xs. Grows start.written now.written
-    (texts_of line_rules frames then.replies ++ take then.part xs) in
+    (bytes_of_replies line_rules frames then.replies ++ take then.part xs) in
     record {
       moments = then.moments;
       gives = then.gives;
@@ -325,10 +325,10 @@ stopped_last step start now bytes rest frames want same are none (inl is) stop =
     ∙ ap (λ f. asks_of (frames ++ f ∷ [])) (sym is) in
     stopped_front step start now frames want (lines bytes) (lines bytes) [] (sym (append-nil (lines bytes))) asks stop
 stopped_last step start now bytes rest frames want same are none (inr read) stop =
-    let what = asked rest in
+    let what = line_asks rest in
     let asks = asks_to_end bytes rest frames (lined frames bytes rest are) none
     ∙ ap (λ f. asks_of (frames ++ f ∷ [])) (wants_asked rest read.0) in
-    stopped_front step start now frames (wanted what) (lines bytes) (lines bytes) [] (sym (append-nil (lines bytes))) asks
+    stopped_front step start now frames (want_for what) (lines bytes) (lines bytes) [] (sym (append-nil (lines bytes))) asks
     (stop_meant step start now frames what want same read.1 read.2 stop)
 
 -- a prefix of the lines that have ended was answered, or a prefix of all lines if the input has ended

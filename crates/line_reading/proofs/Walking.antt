@@ -3,7 +3,7 @@ use Rattle.std.proofs.Common.{◌≡◌, ℕ, ◌+◌, ◌≤◌, List, [], ◌�
 use Rattle.std.proofs.lemmas.List.{take-append-drop, drop-drop}
 use Rattle.std.proofs.Math.Seq.{take-add}
 use Rattle.memchr.specs.Find.{IsFirstByte, is_byte}
-use Rattle.line_reading.specs.Lines.{HasNoEnd, Ends}
+use Rattle.line_reading.specs.Lines.{HasNoEnd, IsCutAtEnd}
 use Rattle.line_reading.proofs.LineLemmas.{HasNoEnd-append, HasNoEnd-before, HasNoEnd-unfound, cut_at_end}
 
 regrouped : (front part behind : List ℕ)
@@ -14,7 +14,7 @@ regrouped front part behind =
 
 pub next_end : (rest : List ℕ) (seen at : ℕ) → seen ≤ length rest → HasNoEnd (take seen rest)
     → IsFirstByte (is_byte 10) (drop seen rest) (Some at)
-    → Ends rest (take (seen + at) rest) (drop (seen + at + 1) rest)
+    → IsCutAtEnd rest (take (seen + at) rest) (drop (seen + at + 1) rest)
 next_end rest seen at within unseen found =
     let behind = drop seen rest in
     let part : take (seen + at) rest ≡ take seen rest ++ take at behind = take-add seen at rest in

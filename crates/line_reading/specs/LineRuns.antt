@@ -7,13 +7,13 @@ use Rattle.request_loop.specs.Moments.{ClockGives}
 use Rattle.request_loop.specs.Serving.{Progress}
 use Rattle.request_loop.specs.Sessions.{Session}
 use Rattle.line_reading.specs.Lines.{Line}
-use Rattle.line_reading.specs.Requests.{asked}
+use Rattle.line_reading.specs.Requests.{line_asks}
 use Rattle.line_reading.specs.Replies.{reply_text, reply_texts}
 
 -- What lines ask, in order; an empty line asks nothing.
 abbrev pub asks_of_lines : List Line → List Asked
 asks_of_lines [] = []
-asks_of_lines (line ∷ others) = if length line == 0 then asks_of_lines others else asked line
+asks_of_lines (line ∷ others) = if length line == 0 then asks_of_lines others else line_asks line
     ∷ asks_of_lines others
 
 -- The texts of the replies to what was asked, in order. Of the last text perhaps only a prefix is there.

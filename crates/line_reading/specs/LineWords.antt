@@ -6,8 +6,8 @@ use Rattle.line_reading.specs.declared.requests.LineWords.{LineWords}
 use Rattle.line_reading.specs.declared.requests.LineWords.TheVariants as words
 
 -- What these words ask.
-abbrev pub asked_of : LineWords → Asked
-asked_of (words.Refused refusal) = Refuse refusal
-asked_of (words.Upload office number body) = Ask
+abbrev pub asked_by_words : LineWords → Asked
+asked_by_words (words.Refused refusal) = Refuse refusal
+asked_by_words (words.Upload office number body) = Ask
     (Upload (record { office = office; number = number; body = body.now }))
-asked_of (words.Other request) = Ask request
+asked_by_words (words.Other request) = Ask request

@@ -29,7 +29,7 @@ abbrev pub line_of : List ℕ → Line
 line_of part = strip_carriage_return part
 
 -- The bytes are a part before the first LF, the LF, and what follows it.
-pub record Ends (bytes part after : List ℕ) : Type 0 where
+pub record IsCutAtEnd (bytes part after : List ℕ) : Type 0 where
   pub parts : bytes ≡ (part ++ 10 ∷ []) ++ after
   pub none : HasNoEnd part
 

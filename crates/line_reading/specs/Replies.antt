@@ -26,13 +26,13 @@ asks_file (Ask request) = wants_file request
 
 -- What a reply says after its status code: a text, or a refusal in words. If the text is a file, the number of its
 -- bytes and the end of a line come before it.
-abbrev pub told : Reply → Bool → List ℕ
-told (replies.Text code kind text) is_file = if is_file then decimal (length text) ++ 10 ∷ text else text
-told (replies.Words refusal) is_file = refusal_words refusal
+abbrev pub text_after_code : Reply → Bool → List ℕ
+text_after_code (replies.Text code kind text) is_file = if is_file then decimal (length text) ++ 10 ∷ text else text
+text_after_code (replies.Words refusal) is_file = refusal_words refusal
 
 -- The bytes of a reply: its status code, a space, what it says, and the end of the line.
 unfoldable pub reply_bytes : Reply → Bool → List ℕ
-reply_bytes reply is_file = decimal (reply_status_code reply) ++ 32 ∷ (told reply is_file ++ 10 ∷ [])
+reply_bytes reply is_file = decimal (reply_status_code reply) ++ 32 ∷ (text_after_code reply is_file ++ 10 ∷ [])
 
 -- The bytes of the reply to what was asked. All that matters of what was asked is whether it is a file.
 abbrev pub reply_text : Asked → Reply → List ℕ

@@ -6,7 +6,7 @@ use Rattle.register_words.specs.declared.request.Request.TheVariants as requests
 use Rattle.register_words.specs.declared.request.Asked.{Asked}
 use Rattle.register_words.specs.declared.request.Asked.TheVariants.{Ask, Refuse}
 use Rattle.register_words.specs.declared.reply.Refusal.TheVariants.{TooLong, NoRoute, Path}
-use Rattle.register_words.specs.Words.{base_of, code_of, form_of, number_of, sheet_of}
+use Rattle.register_words.specs.Words.{base_named, form_named, lei_from, number_in_word, sheet_named}
 use Rattle.line_reading.specs.Limits.{line_limit}
 use Rattle.line_reading.specs.Lines.{Line}
 use Rattle.line_reading.specs.declared.requests.FirstWord.{FirstWord}
@@ -20,56 +20,56 @@ o >>= f = option_and_then f o
 -- ---- words
 
 -- The bytes before the first space and those after it, if there is a space.
-abbrev pub cut : List ℕ → Option (List ℕ × List ℕ)
-cut bytes = option_map (λ n. (take n bytes, drop (n + 1) bytes)) (position (λ b. b == 32) bytes)
+abbrev pub cut_at_space : List ℕ → Option (List ℕ × List ℕ)
+cut_at_space bytes = option_map (λ n. (take n bytes, drop (n + 1) bytes)) (position (λ b. b == 32) bytes)
 
 -- ---- requests, by what follows the first word and its space
 
 -- ACCREDIT: the rest is an LEI.
-abbrev pub accreditation_of : List ℕ → Option Request
-accreditation_of rest = option_map requests.Accredit (code_of rest)
+abbrev pub accreditation_request : List ℕ → Option Request
+accreditation_request rest = option_map requests.Accredit (lei_from rest)
 
 -- SHOW: the rest is an LEI.
-abbrev pub show_of : List ℕ → Option Request
-show_of rest = option_map requests.Show (code_of rest)
+abbrev pub show_request : List ℕ → Option Request
+show_request rest = option_map requests.Show (lei_from rest)
 
 -- PUBLISH: the rest is a number.
-abbrev pub publication_of : List ℕ → Option Request
-publication_of rest = option_map requests.Publish (number_of rest)
+abbrev pub publication_request : List ℕ → Option Request
+publication_request rest = option_map requests.Publish (number_in_word rest)
 
 -- COPY: a sheet and a form.
-unfoldable pub copy_of : List ℕ → Option Request
-copy_of rest = do
-  parts ← cut rest
-  sheet ← sheet_of parts.0
-  form ← form_of parts.1
+unfoldable pub copy_request : List ℕ → Option Request
+copy_request rest = do
+  parts ← cut_at_space rest
+  sheet ← sheet_named parts.0
+  form ← form_named parts.1
   Some (requests.Copy sheet form)
 
 -- DELTA: a base, a sheet and a form.
-unfoldable pub delta_of : List ℕ → Option Request
-delta_of rest = do
-  first ← cut rest
-  second ← cut first.1
-  base ← base_of first.0
-  sheet ← sheet_of second.0
-  form ← form_of second.1
+unfoldable pub delta_request : List ℕ → Option Request
+delta_request rest = do
+  first ← cut_at_space rest
+  second ← cut_at_space first.1
+  base ← base_named first.0
+  sheet ← sheet_named second.0
+  form ← form_named second.1
   Some (requests.Delta base sheet form)
 
 -- KEPT: an LEI and a number.
-unfoldable pub kept_of : List ℕ → Option Request
-kept_of rest = do
-  parts ← cut rest
-  issuer ← code_of parts.0
-  number ← number_of parts.1
+unfoldable pub kept_request : List ℕ → Option Request
+kept_request rest = do
+  parts ← cut_at_space rest
+  issuer ← lei_from parts.0
+  number ← number_in_word parts.1
   Some (requests.Kept issuer number)
 
 -- UPLOAD: an LEI, a number, and as the body all that follows the space after the number.
-unfoldable pub upload_of : List ℕ → Option Request
-upload_of rest = do
-  first ← cut rest
-  second ← cut first.1
-  office ← code_of first.0
-  number ← number_of second.0
+unfoldable pub upload_request : List ℕ → Option Request
+upload_request rest = do
+  first ← cut_at_space rest
+  second ← cut_at_space first.1
+  office ← lei_from first.0
+  number ← number_in_word second.0
   Some (requests.Upload (record { office = office; number = number; body = second.1 }))
 
 -- The first words of lines that ask something, exactly as written. Any other word is none of them.
@@ -97,13 +97,13 @@ request_alone Status = Some requests.Status
 
 -- The request that a first word makes with what follows its space.
 abbrev pub request_with : FirstWord → List ℕ → Option Request
-request_with Accredit rest = accreditation_of rest
-request_with Upload rest = upload_of rest
-request_with Kept rest = kept_of rest
-request_with Publish rest = publication_of rest
-request_with Show rest = show_of rest
-request_with Copy rest = copy_of rest
-request_with Delta rest = delta_of rest
+request_with Accredit rest = accreditation_request rest
+request_with Upload rest = upload_request rest
+request_with Kept rest = kept_request rest
+request_with Publish rest = publication_request rest
+request_with Show rest = show_request rest
+request_with Copy rest = copy_request rest
+request_with Delta rest = delta_request rest
 request_with Status rest = None
 
 -- The request that a first word makes with what follows its space, if there is a space.
@@ -119,16 +119,16 @@ or_path None = Refuse Path
 or_path (Some request) = Ask request
 
 -- What is asked by a first word and what follows its space.
-abbrev pub asked_by : Option FirstWord → Option (List ℕ) → Asked
-asked_by None rest = Refuse NoRoute
-asked_by (Some word) rest = or_path (request_by word rest)
+abbrev pub asked_after_word : Option FirstWord → Option (List ℕ) → Asked
+asked_after_word None rest = Refuse NoRoute
+asked_after_word (Some word) rest = or_path (request_by word rest)
 
 -- The same for a line that was cut at its first space, if it has one.
-abbrev pub asked_in : Line → Option (List ℕ × List ℕ) → Asked
-asked_in line None = asked_by (first_word line) None
-asked_in line (Some parts) = asked_by (first_word parts.0) (Some parts.1)
+abbrev pub asked_when_cut : Line → Option (List ℕ × List ℕ) → Asked
+asked_when_cut line None = asked_after_word (first_word line) None
+asked_when_cut line (Some parts) = asked_after_word (first_word parts.0) (Some parts.1)
 
 -- The first of these that applies: the line is too long, its first word is unknown, or its other words aren't those of
 -- a request. Otherwise what it asks.
-unfoldable pub asked : Line → Asked
-asked line = if nat_lt line_limit (length line) then Refuse TooLong else asked_in line (cut line)
+unfoldable pub line_asks : Line → Asked
+line_asks line = if nat_lt line_limit (length line) then Refuse TooLong else asked_when_cut line (cut_at_space line)

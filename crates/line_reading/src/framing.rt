@@ -1,7 +1,7 @@
 //! Lines as the frames of an input.
 ghost use Rattle.std.specs.Prelude.{◌≡◌, ◌≤◌, ◌<◌, [], length, take, drop, false, IsTrue};
 ghost use Rattle.line_reading.specs.Lines.{HasNoEnd};
-ghost use Rattle.line_reading.specs.LineFrames.{Gathers, IsReadOf, TakesLine, wanted};
+ghost use Rattle.line_reading.specs.LineFrames.{GathersRefused, IsReadOf, TakesLine, want_for};
 
 use crate::lines::{line_of, next_end};
 use crate::requests::{LineWords, MAX_LINE, line_request, words_of};
@@ -36,11 +36,11 @@ impl LineFraming {
     ghost use Rattle.std.specs.Prelude.{◌≡◌, List, ℕ, [], true, false, IfOk};
     ghost use Rattle.request_loop.specs.Frames.{ReadsFront};
     ghost use Rattle.line_reading.specs.Lines.{HasNoEnd};
-    ghost use Rattle.line_reading.specs.LineFrames.{Holds, line_rules};
+    ghost use Rattle.line_reading.specs.LineFrames.{HoldsLines, line_rules};
 
     /// A framing that has read nothing.
     pub fn new(alloc: Global) -> Result<Self, NoMemory>
-        ensures holds { IfOk result (λ framing. Holds framing.skips framing.seen [] []) }
+        ensures holds { IfOk result (λ framing. HoldsLines framing.skips framing.seen [] []) }
         ensures waiting { IfOk result (λ framing. framing.refusals ≡ []) }
     {
         Ok(LineFraming {
@@ -56,8 +56,8 @@ impl LineFraming {
     fn skip(&mut self, held: &[u8]) -> Front<Asked, NoEnd>
         requires skips { self.old.skips ≡ true }
         requires none { self.old.refusals ≡ [] }
-        ensures { (bytes : List ℕ) → Holds true self.old.seen held.now bytes
-            → ReadsFront line_rules (Holds self.new.skips self.new.seen) self.new.refusals bytes
+        ensures { (bytes : List ℕ) → HoldsLines true self.old.seen held.now bytes
+            → ReadsFront line_rules (HoldsLines self.new.skips self.new.seen) self.new.refusals bytes
             held.now result }
     {
         match next_end(held, 0) {
@@ -75,7 +75,7 @@ impl LineFraming {
         requires skips { self.old.skips ≡ false }
         requires none { self.old.refusals ≡ [] }
         ensures { HasNoEnd held.now
-            → ReadsFront line_rules (Holds self.new.skips self.new.seen) self.new.refusals held.now
+            → ReadsFront line_rules (HoldsLines self.new.skips self.new.seen) self.new.refusals held.now
             held.now result }
     {
         if held.len() > MAX_LINE + 1 {
@@ -95,11 +95,11 @@ impl Framing for LineFraming {
     type End = NoEnd;
 
     ghost use Rattle.std.specs.Prelude.{◌≡◌};
-    ghost use Rattle.line_reading.specs.LineFrames.{Holds, line_rules, line_whole_on};
+    ghost use Rattle.line_reading.specs.LineFrames.{HoldsLines, line_rules, line_whole_on};
 
     ghost rules = { line_rules };
 
-    ghost holds = { λ framing held bytes. Holds framing.skips framing.seen held bytes };
+    ghost holds = { λ framing held bytes. HoldsLines framing.skips framing.seen held bytes };
 
     ghost waiting = { λ framing. framing.refusals };
 
@@ -148,7 +148,7 @@ impl Framing for LineFraming {
 
 // What a refused line wants.
 fn refusal_of(refusal: Refusal) -> Want<Asked, NoEnd>
-    ensures { result ≡ wanted (Asked.Refuse refusal) }
+    ensures { result ≡ want_for (Asked.Refuse refusal) }
 {
     Want {
         asked: Asked::Refuse(refusal),
@@ -176,7 +176,8 @@ fn gather(refusals: &mut WriteBuffer, held: &[u8], mut seen: usize) -> usize
     requires none { refusals.old ≡ [] }
     requires within { seen ≤ length held.now }
     ensures within { result ≤ length held.now }
-    ensures gathers { HasNoEnd (take seen held.now) → Gathers held.now (drop result held.now) refusals.new }
+    ensures gathers { HasNoEnd (take seen held.now)
+        → GathersRefused held.now (drop result held.now) refusals.new }
     ensures nothing { result ≡ 0 → refusals.new ≡ [] }
 {
     let mut used = 0;

@@ -1,6 +1,6 @@
 //! Finds where lines end.
 ghost use Rattle.std.specs.Prelude.{◌≡◌, ◌≤◌, ◌<◌, ◌+◌, length, take, drop, IfSome, IfNone};
-ghost use Rattle.line_reading.specs.Lines.{HasNoEnd, Ends, line_of};
+ghost use Rattle.line_reading.specs.Lines.{HasNoEnd, IsCutAtEnd, line_of};
 
 use memchr::memchr;
 
@@ -18,7 +18,7 @@ pub fn line_of(part: &[u8]) -> &[u8]
 pub fn next_end(rest: &[u8], seen: usize) -> Option<usize>
     requires { seen ≤ length rest.now }
     ensures found { HasNoEnd (take seen rest.now)
-        → IfSome result (λ end. Ends rest.now (take end rest.now) (drop (end + 1) rest.now)) }
+        → IfSome result (λ end. IsCutAtEnd rest.now (take end rest.now) (drop (end + 1) rest.now)) }
     ensures within { IfSome result (λ end. end < length rest.now) }
     ensures none { HasNoEnd (take seen rest.now) → IfNone result (HasNoEnd rest.now) }
 {

@@ -2,8 +2,8 @@
 ghost use Rattle.std.specs.Prelude.{◌≡◌, None, Some, option_map, option_and_then, position, length, ◌==◌, ◌<◌, IfOk, IfSome, OnErr};
 ghost use Rattle.std.specs.Option.{option_copied};
 ghost use Rattle.register_words.specs.Readings.{MayWantMemory};
-ghost use Rattle.line_reading.specs.Requests.{cut, accreditation_of, copy_of, delta_of, kept_of, publication_of, show_of, upload_of, first_word, asked_by, asked, or_path};
-ghost use Rattle.line_reading.specs.LineWords.{asked_of};
+ghost use Rattle.line_reading.specs.Requests.{cut_at_space, accreditation_request, copy_request, delta_request, kept_request, publication_request, show_request, upload_request, first_word, asked_after_word, line_asks, or_path};
+ghost use Rattle.line_reading.specs.LineWords.{asked_by_words};
 
 use lei_code::Lei;
 use lei_outside::{NoMemory, Shared};
@@ -46,7 +46,7 @@ fn first_space(bytes: &[u8]) -> Option<usize>
 
 /// The bytes before the first space and those after it, if there is a space.
 pub fn cut(bytes: &[u8]) -> Option<(&[u8], &[u8])>
-    ensures { option_map (λ parts. (parts.0.now, parts.1.now)) result ≡ cut bytes.now }
+    ensures { option_map (λ parts. (parts.0.now, parts.1.now)) result ≡ cut_at_space bytes.now }
 {
     match first_space(bytes) {
         Some(at) => Some((&bytes[..at], &bytes[at + 1..])),
@@ -55,9 +55,9 @@ pub fn cut(bytes: &[u8]) -> Option<(&[u8], &[u8])>
 }
 
 // An upload, with its body borrowed from the line.
-#[tactic(auto, unfolding(crate::specs::Requests::upload_of))]
+#[tactic(auto, unfolding(crate::specs::Requests::upload_request))]
 fn upload_of(rest: &[u8]) -> LineWords<'_>
-    ensures { asked_of result ≡ or_path (upload_of rest.now) }
+    ensures { asked_by_words result ≡ or_path (upload_request rest.now) }
 {
     let Some((office, rest)) = cut(rest) else {
         return LineWords::Refused(Refusal::Path);
@@ -72,7 +72,7 @@ fn upload_of(rest: &[u8]) -> LineWords<'_>
 }
 
 fn accreditation_of(rest: &[u8]) -> Option<Request>
-    ensures { result ≡ accreditation_of rest.now }
+    ensures { result ≡ accreditation_request rest.now }
 {
     match code_of(rest) {
         Some(office) => Some(Request::Accredit(office)),
@@ -80,9 +80,9 @@ fn accreditation_of(rest: &[u8]) -> Option<Request>
     }
 }
 
-#[tactic(auto, unfolding(crate::specs::Requests::kept_of))]
+#[tactic(auto, unfolding(crate::specs::Requests::kept_request))]
 fn kept_of(rest: &[u8]) -> Option<Request>
-    ensures { result ≡ kept_of rest.now }
+    ensures { result ≡ kept_request rest.now }
 {
     let Some((issuer, number)) = cut(rest) else {
         return None;
@@ -94,7 +94,7 @@ fn kept_of(rest: &[u8]) -> Option<Request>
 }
 
 fn publication_of(rest: &[u8]) -> Option<Request>
-    ensures { result ≡ publication_of rest.now }
+    ensures { result ≡ publication_request rest.now }
 {
     match number_of(rest) {
         Some(number) => Some(Request::Publish(number)),
@@ -102,9 +102,9 @@ fn publication_of(rest: &[u8]) -> Option<Request>
     }
 }
 
-#[tactic(auto, unfolding(crate::specs::Requests::copy_of))]
+#[tactic(auto, unfolding(crate::specs::Requests::copy_request))]
 fn copy_of(rest: &[u8]) -> Option<Request>
-    ensures { result ≡ copy_of rest.now }
+    ensures { result ≡ copy_request rest.now }
 {
     let Some((sheet, form)) = cut(rest) else {
         return None;
@@ -115,9 +115,9 @@ fn copy_of(rest: &[u8]) -> Option<Request>
     Some(Request::Copy(sheet, form))
 }
 
-#[tactic(auto, unfolding(crate::specs::Requests::delta_of))]
+#[tactic(auto, unfolding(crate::specs::Requests::delta_request))]
 fn delta_of(rest: &[u8]) -> Option<Request>
-    ensures { result ≡ delta_of rest.now }
+    ensures { result ≡ delta_request rest.now }
 {
     let Some((base, rest)) = cut(rest) else {
         return None;
@@ -133,7 +133,7 @@ fn delta_of(rest: &[u8]) -> Option<Request>
 }
 
 fn show_of(rest: &[u8]) -> Option<Request>
-    ensures { result ≡ show_of rest.now }
+    ensures { result ≡ show_request rest.now }
 {
     match code_of(rest) {
         Some(code) => Some(Request::Show(code)),
@@ -173,7 +173,7 @@ fn first_word(word: &[u8]) -> Option<FirstWord>
 
 // A request, or the refusal of the words after the first one.
 fn or_path(request: Option<Request>) -> LineWords<'static>
-    ensures { asked_of result ≡ or_path request }
+    ensures { asked_by_words result ≡ or_path request }
 {
     match request {
         Some(request) => LineWords::Other(request),
@@ -183,7 +183,7 @@ fn or_path(request: Option<Request>) -> LineWords<'static>
 
 // What a first word asks alone.
 fn asked_alone(word: Option<FirstWord>) -> LineWords<'static>
-    ensures { asked_of result ≡ asked_by word None }
+    ensures { asked_by_words result ≡ asked_after_word word None }
 {
     match word {
         Some(FirstWord::Status) => LineWords::Other(Request::Status),
@@ -194,7 +194,7 @@ fn asked_alone(word: Option<FirstWord>) -> LineWords<'static>
 
 // What a first word asks with what follows its space.
 fn asked_with(word: Option<FirstWord>, rest: &[u8]) -> LineWords<'_>
-    ensures { asked_of result ≡ asked_by word (Some rest.now) }
+    ensures { asked_by_words result ≡ asked_after_word word (Some rest.now) }
 {
     match word {
         Some(FirstWord::Accredit) => or_path(accreditation_of(rest)),
@@ -210,9 +210,9 @@ fn asked_with(word: Option<FirstWord>, rest: &[u8]) -> LineWords<'_>
 }
 
 /// What the words of a line ask, without the line's end. It allocates nothing.
-#[tactic(auto, unfolding(crate::specs::Requests::asked))]
+#[tactic(auto, unfolding(crate::specs::Requests::line_asks))]
 pub fn words_of(line: &[u8]) -> LineWords<'_>
-    ensures { asked_of result ≡ asked line.now }
+    ensures { asked_by_words result ≡ line_asks line.now }
 {
     if line.len() > MAX_LINE {
         return LineWords::Refused(Refusal::TooLong);
@@ -226,8 +226,8 @@ pub fn words_of(line: &[u8]) -> LineWords<'_>
 /// What a line asks, without its end: a request, or the refusal that is its reply. The only error is that there is no
 /// memory for the body of an upload.
 pub fn line_request(alloc: Global, line: &[u8]) -> Result<Asked, NoMemory>
-    ensures ok { IfOk result (λ found. found ≡ asked line.now) }
-    ensures err { OnErr result (MayWantMemory (asked line.now)) }
+    ensures ok { IfOk result (λ found. found ≡ line_asks line.now) }
+    ensures err { OnErr result (MayWantMemory (line_asks line.now)) }
 {
     match words_of(line) {
         LineWords::Refused(refusal) => Ok(Asked::Refuse(refusal)),

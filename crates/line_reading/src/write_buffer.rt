@@ -2,7 +2,7 @@
 ghost use Rattle.std.specs.Prelude.{◌≡◌, ◌≤◌, ◌+◌, ◌++◌, [], length, vec_len, vec_capacity, IfOk, OnOk, OnErr, IsErrOf};
 ghost use Rattle.lei_outside.specs.Told.{Grows, WritesFront};
 ghost use Rattle.lei_outside.specs.Faults.{FailsLast};
-ghost use Rattle.lei_outside.specs.Links.{told_by};
+ghost use Rattle.lei_outside.specs.Links.{link_told};
 ghost use Rattle.request_loop.specs.Wires.{IsSent};
 ghost use Rattle.line_reading.specs.WriteBuffer.{Sends};
 
@@ -65,7 +65,7 @@ impl WriteBuffer {
         ensures kept { ¬ (IsErrOf result SinkFault.Failed)
             → L.write_faults link.new ≡ L.write_faults link.old }
         ensures failed { IsErrOf result SinkFault.Failed →
-            FailsLast (told_by L.left L.written) L.write_faults link.old link.new }
+            FailsLast (link_told L.left L.written) L.write_faults link.old link.new }
         ensures left { L.left link.new ≡ L.left link.old }
         ensures read_count { L.read_faults link.new ≡ L.read_faults link.old }
         ensures wire { L.lends_same link.old link.new }
@@ -89,7 +89,7 @@ impl WriteBuffer {
         ensures kept { ¬ (IsErrOf result SinkFault.Failed)
             → L.write_faults link.new ≡ L.write_faults link.old }
         ensures failed { IsErrOf result SinkFault.Failed →
-            FailsLast (told_by L.left L.written) L.write_faults link.old link.new }
+            FailsLast (link_told L.left L.written) L.write_faults link.old link.new }
         ensures left { L.left link.new ≡ L.left link.old }
         ensures read_count { L.read_faults link.new ≡ L.read_faults link.old }
         ensures wire { L.lends_same link.old link.new }

@@ -1,7 +1,7 @@
 //! Writes replies.
 ghost use Rattle.std.specs.Prelude.{◌≡◌, [], ◌++◌, flat_map, false, IfSome, IsErrOf};
 ghost use Rattle.lei_outside.specs.Faults.{FailsLast};
-ghost use Rattle.lei_outside.specs.Links.{told_by};
+ghost use Rattle.lei_outside.specs.Links.{link_told};
 ghost use Rattle.register_words.specs.declared.reply.Reply.{Reply};
 ghost use Rattle.request_loop.specs.Wires.{IsSent};
 ghost use Rattle.line_reading.specs.WriteBuffer.{Puts};
@@ -37,7 +37,7 @@ pub fn send_reply<L: Wire>(
     ensures sent { IsSent (L.written link.old) (L.written link.new) (reply_bytes reply.now is_file) result }
     ensures kept { ¬ (IsErrOf result SinkFault.Failed) → L.write_faults link.new ≡ L.write_faults link.old }
     ensures failed { IsErrOf result SinkFault.Failed →
-        FailsLast (told_by L.left L.written) L.write_faults link.old link.new }
+        FailsLast (link_told L.left L.written) L.write_faults link.old link.new }
     ensures left { L.left link.new ≡ L.left link.old }
     ensures read_count { L.read_faults link.new ≡ L.read_faults link.old }
     ensures wire { L.lends_same link.old link.new }
@@ -76,7 +76,7 @@ fn put_reply<L: Wire>(
         (buffer.old ++ reply_bytes reply.now is_file) result buffer.new }
     ensures kept { ¬ (IsErrOf result SinkFault.Failed) → L.write_faults link.new ≡ L.write_faults link.old }
     ensures failed { IsErrOf result SinkFault.Failed →
-        FailsLast (told_by L.left L.written) L.write_faults link.old link.new }
+        FailsLast (link_told L.left L.written) L.write_faults link.old link.new }
     ensures left { L.left link.new ≡ L.left link.old }
     ensures read_count { L.read_faults link.new ≡ L.read_faults link.old }
     ensures wire { L.lends_same link.old link.new }
@@ -117,7 +117,7 @@ pub fn put_all<L: Wire>(
         (buffer.old ++ flat_map (λ piece. piece.now) pieces.now) result buffer.new }
     ensures kept { ¬ (IsErrOf result SinkFault.Failed) → L.write_faults link.new ≡ L.write_faults link.old }
     ensures failed { IsErrOf result SinkFault.Failed →
-        FailsLast (told_by L.left L.written) L.write_faults link.old link.new }
+        FailsLast (link_told L.left L.written) L.write_faults link.old link.new }
     ensures left { L.left link.new ≡ L.left link.old }
     ensures read_count { L.read_faults link.new ≡ L.read_faults link.old }
     ensures wire { L.lends_same link.old link.new }

@@ -2,7 +2,7 @@
 use Rattle.std.proofs.Common.{◌≡◌, ℤ, List, [], inr, refl, sym, subst}
 use Rattle.request_loop.specs.Frames.{Fits}
 use Rattle.lei_mirror.specs.Mirrors.{MirrorState}
-use Rattle.query_reading.specs.QueryFrames.{ReadsAs}
+use Rattle.query_reading.specs.QueryFrames.{QueryReadsAs}
 use Rattle.query_reading.specs.declared.asked.QueryAsked.{QueryAsked}
 use Rattle.query_reading.specs.declared.refusal.QueryRefusal.TheVariants.{NoMemory}
 use Rattle.query_reading.specs.declared.reply.QueryReply.{QueryReply}
@@ -11,7 +11,7 @@ use Rattle.mirror_queries.specs.Serving.{mirror_rules}
 use Rattle.mirror_queries.specs.declared.grammar.ShowQuery.{ShowQuery}
 
 unread : (meant : MirrorAsked) (old new : MirrorState) (moments : List ℤ) (reply : QueryReply)
-    → ReadsAs meant (QueryAsked.Refuse NoMemory) → MirrorStep old (QueryAsked.Refuse NoMemory) moments reply new
+    → QueryReadsAs meant (QueryAsked.Refuse NoMemory) → MirrorStep old (QueryAsked.Refuse NoMemory) moments reply new
     → MirrorStep old meant moments reply new
 unread (QueryAsked.Refuse refusal) old new moments reply reads answered = absurd reads.0
 unread (QueryAsked.Query query) old new moments reply reads answered =
@@ -20,7 +20,7 @@ unread (QueryAsked.Packet head packet) old new moments reply reads answered =
     (answered.0, inr (inr (inr (record { reply_is = answered.1; stays = answered.2 }))))
 
 read_alike : (meant read : MirrorAsked) (old new : MirrorState) (moments : List ℤ) (reply : QueryReply)
-    → ReadsAs meant read → MirrorStep old read moments reply new → MirrorStep old meant moments reply new
+    → QueryReadsAs meant read → MirrorStep old read moments reply new → MirrorStep old meant moments reply new
 read_alike meant read old new moments reply reads answered =
     let S : MirrorAsked → Type 0 = λ asked. MirrorStep old asked moments reply new in
     unread meant old new moments reply (reads.0, refl) (subst S reads.1 answered)

@@ -10,8 +10,8 @@ use Rattle.lei_mirror.proofs.PacketLemmas.{same_packet}
 use Rattle.lei_mirror.proofs.TakingLemmas.{one_taken}
 use Rattle.query_reading.specs.declared.asked.QueryAsked.{QueryAsked}
 use Rattle.query_reading.specs.declared.reply.QueryReply.{QueryReply}
-use Rattle.mirror_queries.specs.Answering.{LacksMemory, MirrorAsked, MirrorStep, ShowStep, TakeStep, standing_text}
-use Rattle.mirror_queries.specs.Sizes.{IsShort}
+use Rattle.mirror_queries.specs.Answering.{LacksMemory, MirrorAsked, MirrorStep, PacketStep, ShowStep, progress_text}
+use Rattle.mirror_queries.specs.Sizes.{HasShortPacket}
 use Rattle.mirror_queries.specs.declared.grammar.PacketHead.{PacketHead}
 
 -- the replies and the next mirrors are the same, unless memory ran out for one of them
@@ -65,15 +65,15 @@ module _ (state : MirrorState) (head : PacketHead) (packet : Text) (short : leng
       let full : is_mirror_full state takes.packet ≡ true = subst (λ p. is_mirror_full state p ≡ true) same lacks.full in
       false≢true (sym (takes.takes.room late) ∙ full)
 
-  one_take : (new next : MirrorState) (reply other : QueryReply) → TakeStep state head packet reply new
-      → TakeStep state head packet other next → OneOf state reply new other next
+  one_take : (new next : MirrorState) (reply other : QueryReply) → PacketStep state head packet reply new
+      → PacketStep state head packet other next → OneOf state reply new other next
   one_take new next reply other (inr (inr (inr wants))) step = inl wants
   one_take new next reply other step (inr (inr (inr wants))) = inr (inl wants)
   one_take new next reply other (inl takes) (inl take) =
       let same : new ≡ next = one_new new next takes.takes take.takes in
-      let text : QueryReply.Text (standing_text new.tables.publication (length new.kept))
-      ≡ QueryReply.Text (standing_text next.tables.publication (length next.kept)) =
-      ap (λ (s : MirrorState). QueryReply.Text (standing_text s.tables.publication (length s.kept))) same in
+      let text : QueryReply.Text (progress_text new.tables.publication (length new.kept))
+      ≡ QueryReply.Text (progress_text next.tables.publication (length next.kept)) =
+      ap (λ (s : MirrorState). QueryReply.Text (progress_text s.tables.publication (length s.kept))) same in
       inr (inr (takes.reply_is ∙ text ∙ sym take.reply_is, same))
   one_take new next reply other (inl takes) (inr (inl refuses)) =
       absurd (refuses.none takes.takes.packet takes.takes.is)
@@ -94,7 +94,7 @@ module _ (state : MirrorState) (head : PacketHead) (packet : Text) (short : leng
 -- ---- queries
 
 pub one_reply : (state new next : MirrorState) (asked : MirrorAsked) (moments later : List ℤ) (reply other : QueryReply)
-    → IsShort asked → MirrorStep state asked moments reply new → MirrorStep state asked later other next
+    → HasShortPacket asked → MirrorStep state asked moments reply new → MirrorStep state asked later other next
     → LacksMemory state reply new ⊎ LacksMemory state other next ⊎ ((reply ≡ other) × (new ≡ next))
 one_reply state new next (QueryAsked.Refuse refusal) moments later reply other short step again =
     inr (inr (step.1 ∙ sym again.1, step.2 ∙ sym again.2))

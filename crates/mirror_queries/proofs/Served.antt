@@ -3,12 +3,12 @@ use Rattle.std.proofs.Common.{◌≡◌, ◌≤◌, ℕ, List, [], ◌∷◌, �
 use Rattle.std.specs.List.{All}
 use Rattle.std.proofs.lemmas.List.Elements.{All-append, All-cons, All-nil}
 use Rattle.std.specs.Prelude.{option_map}
-use Rattle.copy_forms.specs.Trails.{IsSound, Trail}
+use Rattle.copy_forms.specs.Trails.{IsSoundTrail, Trail}
 use Rattle.lei_mirror.specs.Following.{FollowsTrail}
 use Rattle.lei_mirror.specs.Mirrors.{MirrorState}
 use Rattle.line_reading.specs.declared.framing.NoEnd.{NoEnd}
-use Rattle.query_reading.specs.Meanings.{asked_at_end, said}
-use Rattle.query_reading.specs.QueryFrames.{EndsInput, IsReadAs, query_whole_on, wanted}
+use Rattle.query_reading.specs.Meanings.{asked_at_end, line_says}
+use Rattle.query_reading.specs.QueryFrames.{EndsInput, IsReadAs, query_want, query_whole_on}
 use Rattle.query_reading.specs.declared.asked.QueryAsked.{QueryAsked}
 use Rattle.query_reading.specs.declared.grammar.LineMeaning.{LineMeaning}
 use Rattle.query_reading.specs.declared.refusal.QueryRefusal.TheVariants.{NoMemory}
@@ -61,7 +61,7 @@ last_of_trail trail meaning asked is = by meaning asked is
 
 -- what was read from such a line
 read_of_trail : (trail : Trail) (meaning : Option MirrorMeaning) (read : Option MirrorAsked)
-    → IsReadAs (asked_at_end meaning) read → All (IsAskedOfTrail trail) (asks_of (option_map wanted read ∷ []))
+    → IsReadAs (asked_at_end meaning) read → All (IsAskedOfTrail trail) (asks_of (option_map query_want read ∷ []))
 read_of_trail trail meaning None reads = All-nil (IsAskedOfTrail trail)
 read_of_trail trail meaning (Some asked) (inl same) =
     All-cons (IsAskedOfTrail trail) asked [] (last_of_trail trail meaning asked (sym same))
@@ -76,7 +76,7 @@ end_of_trail : (trail : Trail) (rest : List ℕ) (frame : Frame) → EndsInput m
     → All (IsAskedOfTrail trail) (asks_of (frame ∷ []))
 end_of_trail trail rest frame (read, (line, is_first, reads), is) =
     let A : Frame → Type 0 = λ f. All (IsAskedOfTrail trail) (asks_of (f ∷ [])) in
-    subst A (sym is) (read_of_trail trail (said mirror_says line) read reads)
+    subst A (sym is) (read_of_trail trail (line_says mirror_says line) read reads)
 
 -- frames, followed by one more
 asks_more : (trail : Trail) (frames : List Frame) (frame : Frame) → All (IsAskedOfTrail trail) (asks_of frames)
@@ -106,7 +106,7 @@ wanted_of_trail trail bytes left frames rest want of are (inr (at_end, begun, en
 
 -- ---- what was answered
 
-module _ (trail : Trail) (on : IsSound trail) (few : length trail ≤ 1_000_000) where
+module _ (trail : Trail) (on : IsSoundTrail trail) (few : length trail ≤ 1_000_000) where
   ran_follows : (start now : Progress MirrorState) (frames : List Frame) → FollowsTrail trail start.who
       → All (IsAskedOfTrail trail) (asks_of frames) → Ran MirrorStep mirror_rules start frames now
       → FollowsTrail trail now.who × Ran (TrailStep trail) mirror_rules start frames now

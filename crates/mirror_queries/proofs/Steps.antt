@@ -5,14 +5,14 @@ use Rattle.std.proofs.lemmas.List.Elements.{All-head, All-nil, All-tail}
 use Rattle.lei_code.specs.Texts.{Text}
 use Rattle.register_words.specs.declared.sheets.Sheet.{Sheet}
 use Rattle.copy_forms.specs.Json.{json_copy}
-use Rattle.copy_forms.specs.Trails.{IsSound, Trail, copy_head}
+use Rattle.copy_forms.specs.Trails.{IsSoundTrail, Trail, copy_head}
 use Rattle.lei_mirror.specs.Following.{FollowsTrail, IsCopyAt, IsKeptOfTrail, ShowsCopyOf}
 use Rattle.lei_mirror.specs.Mirrors.{IsReadyToShow, IsSheetShown, MirrorState, SettlesIn, TakesBytes, empty_mirror, is_past, mirror_at, sheet_copy, with_packet}
 use Rattle.lei_mirror.proofs.FollowingLemmas.{take_follows}
 use Rattle.query_reading.specs.declared.asked.QueryAsked.{QueryAsked}
 use Rattle.query_reading.specs.declared.reply.QueryReply.{QueryReply}
 use Rattle.request_loop.specs.Sessions.{Session}
-use Rattle.mirror_queries.specs.Answering.{MirrorAsked, MirrorStep, ShowStep, TakeStep}
+use Rattle.mirror_queries.specs.Answering.{MirrorAsked, MirrorStep, PacketStep, ShowStep}
 use Rattle.mirror_queries.specs.Following.{IsAskedOfTrail, IsCopyShown, TrailStep}
 use Rattle.mirror_queries.specs.declared.grammar.PacketHead.{PacketHead}
 
@@ -95,13 +95,13 @@ copy_follows trail state sheet bytes follows some shown =
       bytes_are = shown.copy.text ∙ λ i. json_copy (head i) (shows.rows_are i);
     }
 
-module _ (trail : Trail) (on : IsSound trail) (few : length trail ≤ 1_000_000) where
+module _ (trail : Trail) (on : IsSoundTrail trail) (few : length trail ≤ 1_000_000) where
   same_follows : (old new : MirrorState) → FollowsTrail trail old → new ≡ old → FollowsTrail trail new
   same_follows old new follows is = let F : MirrorState → Type 0 = λ s. FollowsTrail trail s in subst F (sym is) follows
 
   packet_follows : (old new : MirrorState) (head : PacketHead) (packet : Text) (reply : QueryReply)
       → FollowsTrail trail old → IsAskedOfTrail trail (QueryAsked.Packet head packet)
-      → TakeStep old head packet reply new → FollowsTrail trail new
+      → PacketStep old head packet reply new → FollowsTrail trail new
   packet_follows old new head packet reply follows of step = elim step [
     | inl takes ↦ take_follows trail on few old new head.kind head.sheet packet takes.short of follows takes.takes
     | inr (inl refuses) ↦ same_follows old new follows refuses.stays

@@ -39,14 +39,14 @@ ShowStep state sheet reply =
 
 -- The answer if a packet was taken: the number of the publication that is shown, and the number of packets that are
 -- kept.
-abbrev pub standing_text : ℕ → ℕ → Text
-standing_text shown kept = decimal shown ++ 32 ∷ decimal kept
+abbrev pub progress_text : ℕ → ℕ → Text
+progress_text shown kept = decimal shown ++ 32 ∷ decimal kept
 
 -- The refusal of a packet that isn't taken.
-abbrev pub take_refusal : MirrorFault → QueryRefusal
-take_refusal MirrorFault.NotRead = QueryRefusal.NotRead
-take_refusal MirrorFault.Full = QueryRefusal.MirrorFull
-take_refusal MirrorFault.NoMemory = QueryRefusal.NoMemory
+abbrev pub packet_refusal : MirrorFault → QueryRefusal
+packet_refusal MirrorFault.NotRead = QueryRefusal.NotRead
+packet_refusal MirrorFault.Full = QueryRefusal.MirrorFull
+packet_refusal MirrorFault.NoMemory = QueryRefusal.NoMemory
 
 -- The bytes are a packet, and it is taken. The reply says what the mirror shows and keeps afterwards. There are fewer
 -- than 2^64 bytes, as is true of all bytes in memory.
@@ -54,10 +54,10 @@ pub record TakesQuery (state : MirrorState) (head : PacketHead) (packet : Text) 
     (new : MirrorState) : Type 0 where
   pub short : length packet < 2 ^ 64
   pub takes : TakesBytes state head.kind head.sheet packet new
-  pub reply_is : reply ≡ QueryReply.Text (standing_text new.tables.publication (length new.kept))
+  pub reply_is : reply ≡ QueryReply.Text (progress_text new.tables.publication (length new.kept))
 
 -- The bytes aren't a packet, and nothing changes.
-pub record RefusesPacket (state : MirrorState) (head : PacketHead) (packet : Text) (reply : QueryReply)
+pub record RefusesMirrorPacket (state : MirrorState) (head : PacketHead) (packet : Text) (reply : QueryReply)
     (new : MirrorState) : Type 0 where
   pub none : IsNoPacket head.kind head.sheet packet
   pub reply_is : reply ≡ QueryReply.Refused QueryRefusal.NotRead
@@ -76,9 +76,9 @@ pub record LacksMemory (state : MirrorState) (reply : QueryReply) (new : MirrorS
   pub stays : new ≡ state
 
 -- The reply to COPY or DELTA, and the mirror afterwards.
-abbrev pub TakeStep : MirrorState → PacketHead → Text → QueryReply → MirrorState → Type 0
-TakeStep state head packet reply new =
-    TakesQuery state head packet reply new ⊎ RefusesPacket state head packet reply new
+abbrev pub PacketStep : MirrorState → PacketHead → Text → QueryReply → MirrorState → Type 0
+PacketStep state head packet reply new =
+    TakesQuery state head packet reply new ⊎ RefusesMirrorPacket state head packet reply new
     ⊎ LacksRoom state head packet reply new ⊎ LacksMemory state reply new
 
 -- ---- queries
@@ -91,4 +91,4 @@ MirrorStep state (QueryAsked.Refuse refusal) moments reply new =
 MirrorStep state (QueryAsked.Query query) moments reply new =
     (moments ≡ []) × ShowStep state query.sheet reply × (new ≡ state)
 MirrorStep state (QueryAsked.Packet head packet) moments reply new =
-    (moments ≡ []) × TakeStep state head packet reply new
+    (moments ≡ []) × PacketStep state head packet reply new

@@ -1,6 +1,6 @@
 //! What lines to a mirror say.
 ghost use Rattle.std.specs.Prelude.{◌≡◌};
-ghost use Rattle.mirror_queries.specs.Grammar.{packet_of, packet_of_size, says_alone, says_with, show_of};
+ghost use Rattle.mirror_queries.specs.Grammar.{mirror_says_alone, mirror_says_with, packet_of, packet_of_size, show_meaning};
 
 use crate::sizes::{read_large, read_size};
 use copy_csv::Sheet;
@@ -50,7 +50,7 @@ impl Grammar for MirrorGrammar {
 
 // What a first word says if nothing follows it.
 fn read_alone(word: &[u8]) -> MirrorMeaning
-    ensures { result ≡ says_alone word.now }
+    ensures { result ≡ mirror_says_alone word.now }
 {
     if word == b"COPY".as_slice() || word == b"DELTA".as_slice() || word == b"SHOW".as_slice() {
         return LineMeaning::Refused(QueryRefusal::Path);
@@ -60,7 +60,7 @@ fn read_alone(word: &[u8]) -> MirrorMeaning
 
 // What a first word says with what follows its space.
 fn read_words(word: &[u8], rest: &[u8]) -> MirrorMeaning
-    ensures { result ≡ says_with word.now rest.now }
+    ensures { result ≡ mirror_says_with word.now rest.now }
 {
     if word == b"COPY".as_slice() {
         return read_packet(PacketKind::Copy, rest);
@@ -75,9 +75,9 @@ fn read_words(word: &[u8], rest: &[u8]) -> MirrorMeaning
 }
 
 // SHOW: the table whose copy is asked for.
-#[tactic(auto, unfolding(crate::specs::Grammar::show_of))]
+#[tactic(auto, unfolding(crate::specs::Grammar::show_meaning))]
 fn read_show(rest: &[u8]) -> MirrorMeaning
-    ensures { result ≡ show_of rest.now }
+    ensures { result ≡ show_meaning rest.now }
 {
     match sheet_of(rest) {
         Some(sheet) => LineMeaning::Query(ShowQuery { sheet }),

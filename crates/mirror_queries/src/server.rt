@@ -1,7 +1,7 @@
 //! The server that answers the queries of a mirror.
 ghost use Rattle.std.specs.Prelude.{◌≡◌, IfOk};
 ghost use Rattle.lei_mirror.specs.Mirrors.{empty_mirror};
-ghost use Rattle.mirror_queries.specs.Answering.{ShowStep, TakeStep, take_refusal};
+ghost use Rattle.mirror_queries.specs.Answering.{PacketStep, ShowStep, packet_refusal};
 
 use crate::grammar::{PacketHead, ShowQuery};
 use crate::texts::{STANDING_ROOM, standing_text};
@@ -52,7 +52,7 @@ impl MirrorServer {
 
     // Answers COPY and DELTA. The memory for the reply is allocated first, so that nothing changes if there is none.
     fn take(&mut self, head: PacketHead, packet: &[u8]) -> QueryReply
-        ensures { TakeStep self.old head packet.now result self.new }
+        ensures { PacketStep self.old head packet.now result self.new }
     {
         let Ok(text) = Vec::with_capacity(self.alloc, STANDING_ROOM) else {
             return QueryReply::Refused(QueryRefusal::NoMemory);
@@ -66,7 +66,7 @@ impl MirrorServer {
 
 // The refusal of a packet that isn't taken.
 fn refusal_of(fault: MirrorFault) -> QueryRefusal
-    ensures { result ≡ take_refusal fault }
+    ensures { result ≡ packet_refusal fault }
 {
     match fault {
         MirrorFault::NotRead => QueryRefusal::NotRead,

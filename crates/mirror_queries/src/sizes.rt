@@ -1,6 +1,6 @@
 //! The sizes of packets.
 ghost use Rattle.std.specs.Prelude.{◌≡◌, ◌↔◌, decimal, IsTrue};
-ghost use Rattle.mirror_queries.specs.Grammar.{large_of, size_of};
+ghost use Rattle.mirror_queries.specs.Grammar.{large_of, mirror_packet_size};
 
 use register_words::number_within;
 
@@ -12,7 +12,7 @@ pub const MAX_SKIPPED: usize = 9_999_999_999;
 
 /// The number of a packet's bytes that a word has in decimal, if it is from 1 to [`MAX_PACKET`].
 pub fn read_size(word: &[u8]) -> Option<usize>
-    ensures { result ≡ size_of word.now }
+    ensures { result ≡ mirror_packet_size word.now }
 {
     match number_within(word, 1, MAX_PACKET) {
         Some(size) => Some(size as usize),

@@ -1,6 +1,6 @@
 //! The texts of answers.
 ghost use Rattle.std.specs.Prelude.{◌≡◌, ◌≤◌, ◌+◌, ◌++◌, [], length, vec_len, vec_capacity};
-ghost use Rattle.mirror_queries.specs.Answering.{standing_text};
+ghost use Rattle.mirror_queries.specs.Answering.{progress_text};
 
 use lei_mirror::Standing;
 use lei_outside::Bytes;
@@ -13,7 +13,7 @@ pub const STANDING_ROOM: usize = 128;
 pub fn standing_text(mut text: Vec<u8>, standing: Standing) -> Bytes
     requires none { text.items ≡ [] }
     requires room { STANDING_ROOM ≤ vec_capacity text }
-    ensures { result ≡ standing_text standing.shown standing.kept }
+    ensures { result ≡ progress_text standing.shown standing.kept }
 {
     let mut shown = itoa::Buffer::new();
     let shown = shown.format(standing.shown).as_bytes();

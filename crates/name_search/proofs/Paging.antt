@@ -2,14 +2,14 @@
 use Rattle.std.proofs.Common.{◌≡◌, ℕ, ◌+◌, ◌<◌, ◌≤◌, Bool, true, false, cond, List, [], ◌∷◌, ◌++◌, length, drop, take, get_or, filter, refl, sym, ap, subst, ◌∙◌, arith}
 use Rattle.std.proofs.lemmas.List.{append-nil, drop-append-le, drop_all, length-take, length_push, take-append-le, take_all}
 use Rattle.std.proofs.lemmas.List.Elements.{filter_more}
-use Rattle.name_search.specs.Gathering.{Gathers}
+use Rattle.name_search.specs.Gathering.{GathersPage}
 use Rattle.name_search.specs.NameTables.{Name}
 
 counted : (before : List Name) (row : Name) (count : ℕ) → count ≡ length before → count + 1 ≡ length (before ++ row ∷ [])
 counted before row count is = ap (λ n. n + 1) is ∙ sym (length_push before row)
 
-pub before_page : (start : ℕ) (before : List Name) (row : Name) (count : ℕ) (names : List Name) → Gathers start before count names → count < start
-    → Gathers start (before ++ row ∷ []) (count + 1) names
+pub before_page : (start : ℕ) (before : List Name) (row : Name) (count : ℕ) (names : List Name) → GathersPage start before count names → count < start
+    → GathersPage start (before ++ row ∷ []) (count + 1) names
 before_page start before row count names gathers early =
     let more : length (before ++ row ∷ []) ≤ start = omega (arith, length_push before row, gathers.count_is) in
     let few : length before ≤ start = omega (arith, gathers.count_is) in
@@ -18,8 +18,8 @@ before_page start before row count names gathers early =
       names_are = gathers.names_are ∙ ap (take 50) (drop_all start before few ∙ sym (drop_all start (before ++ row ∷ []) more));
     }
 
-pub after_page : (start : ℕ) (before : List Name) (row : Name) (count : ℕ) (names : List Name) → Gathers start before count names → start ≤ count
-    → 50 ≤ length names → Gathers start (before ++ row ∷ []) (count + 1) names
+pub after_page : (start : ℕ) (before : List Name) (row : Name) (count : ℕ) (names : List Name) → GathersPage start before count names → start ≤ count
+    → 50 ≤ length names → GathersPage start (before ++ row ∷ []) (count + 1) names
 after_page start before row count names gathers late full =
     let within : start ≤ length before = omega (arith, gathers.count_is) in
     let enough : 50 ≤ length (drop start before) = omega (arith, ap length gathers.names_are, length-take 50 (drop start before)) in
@@ -29,8 +29,8 @@ after_page start before row count names gathers late full =
           ∙ ap (take 50) (sym (drop-append-le start before (row ∷ []) within));
     }
 
-pub on_page : (start : ℕ) (before : List Name) (row : Name) (count : ℕ) (names names' : List Name) → Gathers start before count names
-    → start ≤ count → length names < 50 → names' ≡ names ++ row ∷ [] → Gathers start (before ++ row ∷ []) (count + 1) names'
+pub on_page : (start : ℕ) (before : List Name) (row : Name) (count : ℕ) (names names' : List Name) → GathersPage start before count names
+    → start ≤ count → length names < 50 → names' ≡ names ++ row ∷ [] → GathersPage start (before ++ row ∷ []) (count + 1) names'
 on_page start before row count names names' gathers late room put =
     let within : start ≤ length before = omega (arith, gathers.count_is) in
     let few : length (drop start before) < 50 = omega (arith, ap length gathers.names_are, length-take 50 (drop start before)) in
@@ -42,7 +42,7 @@ on_page start before row count names names' gathers late room put =
     }
 
 -- nothing is gathered from no matches
-pub nothing_yet : (start : ℕ) → Gathers start [] 0 []
+pub nothing_yet : (start : ℕ) → GathersPage start [] 0 []
 nothing_yet start = record { count_is = refl; names_are = ap (take 50) (sym (drop_all start [] (omega arith))) }
 
 -- ---- all rows
@@ -53,26 +53,26 @@ module _ (start : ℕ) (p : Name → Bool) (rows : List Name) (i : ℕ) (row : N
       ∙ ap (λ r. filter p (take i rows) ++ cond (p r) (r ∷ []) []) (sym here)
 
   -- a match is gathered
-  pub gathers_one : (count : ℕ) (names : List Name) → p row ≡ true → Gathers start (filter p (take i rows) ++ row ∷ []) count names
-      → Gathers start (filter p (take (i + 1) rows)) count names
+  pub gathers_one : (count : ℕ) (names : List Name) → p row ≡ true → GathersPage start (filter p (take i rows) ++ row ∷ []) count names
+      → GathersPage start (filter p (take (i + 1) rows)) count names
   gathers_one count names is gathers =
-      subst (λ l. Gathers start l count names)
+      subst (λ l. GathersPage start l count names)
       (sym (next_is ∙ ap (λ b. filter p (take i rows) ++ cond b (row ∷ []) []) is)) gathers
 
   -- a row that doesn't match isn't
-  pub gathers_none : (count : ℕ) (names : List Name) → p row ≡ false → Gathers start (filter p (take i rows)) count names
-      → Gathers start (filter p (take (i + 1) rows)) count names
+  pub gathers_none : (count : ℕ) (names : List Name) → p row ≡ false → GathersPage start (filter p (take i rows)) count names
+      → GathersPage start (filter p (take (i + 1) rows)) count names
   gathers_none count names isnt gathers =
-      subst (λ l. Gathers start l count names)
+      subst (λ l. GathersPage start l count names)
       (sym (next_is ∙ ap (λ b. filter p (take i rows) ++ cond b (row ∷ []) []) isnt ∙ append-nil (filter p (take i rows)))) gathers
 
 pub gathers_all : (start : ℕ) (p : Name → Bool) (rows : List Name) (i count : ℕ) (names : List Name)
-    → Gathers start (filter p (take i rows)) count names → length rows ≤ i → Gathers start (filter p rows) count names
+    → GathersPage start (filter p (take i rows)) count names → length rows ≤ i → GathersPage start (filter p rows) count names
 gathers_all start p rows i count names gathers past =
-    subst (λ l. Gathers start (filter p l) count names) (take_all i rows past) gathers
+    subst (λ l. GathersPage start (filter p l) count names) (take_all i rows past) gathers
 
 pub nothing_found : (start : ℕ) (matches : List Name) (count : ℕ) (names : List Name) → matches ≡ [] → count ≡ 0 → names ≡ []
-    → Gathers start matches count names
+    → GathersPage start matches count names
 nothing_found start matches count names none zero empty = record {
   count_is = zero ∙ sym (ap length none);
   names_are = empty ∙ ap (take 50) (sym (drop_all start [] (omega arith)) ∙ ap (drop start) (sym none));

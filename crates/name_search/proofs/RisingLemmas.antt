@@ -9,31 +9,31 @@ use Rattle.std.proofs.lemmas.Cmp.{nat_list_cmp_total}
 use Rattle.std.proofs.lemmas.List.{take_more}
 use Rattle.std.proofs.lemmas.List.Folds.{list_any-append}
 use Rattle.lei_code.specs.Texts.{Text}
-use Rattle.name_search.specs.Keys.{AreKeysOf, is_key, text_cmp}
+use Rattle.name_search.specs.Keys.{AreKeysOf, is_one_of_keys, text_cmp}
 use Rattle.name_search.proofs.WalkLemmas.{tied}
 
 -- ---- a key in one of two lists
 
-pub in_first : (key : Text) (these those : List Text) → is_key key these ≡ true → is_key key (these ++ those) ≡ true
-in_first key these those is = list_any-append (λ k. is_eq (text_cmp key k)) these those ∙ ap (λ b. b || is_key key those) is
+pub in_first : (key : Text) (these those : List Text) → is_one_of_keys key these ≡ true → is_one_of_keys key (these ++ those) ≡ true
+in_first key these those is = list_any-append (λ k. is_eq (text_cmp key k)) these those ∙ ap (λ b. b || is_one_of_keys key those) is
 
 either : (a b : Bool) → b ≡ true → (a || b) ≡ true
 either true b is = refl
 either false b is = is
 
-pub in_second : (key : Text) (these those : List Text) → is_key key those ≡ true → is_key key (these ++ those) ≡ true
+pub in_second : (key : Text) (these those : List Text) → is_one_of_keys key those ≡ true → is_one_of_keys key (these ++ those) ≡ true
 in_second key these those is =
-    list_any-append (λ k. is_eq (text_cmp key k)) these those ∙ either (is_key key these) (is_key key those) is
+    list_any-append (λ k. is_eq (text_cmp key k)) these those ∙ either (is_one_of_keys key these) (is_one_of_keys key those) is
 
-pub in_both : (key : Text) (a b a' b' : List Text) → (is_key key a ≡ true → is_key key a' ≡ true) → (is_key key b ≡ true → is_key key b' ≡ true)
-    → is_key key (a ++ b) ≡ true → is_key key (a' ++ b') ≡ true
-in_both key a b a' b' first second is = by (is_key key a) refl (sym (list_any-append (λ k. is_eq (text_cmp key k)) a b) ∙ is)
+pub in_both : (key : Text) (a b a' b' : List Text) → (is_one_of_keys key a ≡ true → is_one_of_keys key a' ≡ true) → (is_one_of_keys key b ≡ true → is_one_of_keys key b' ≡ true)
+    → is_one_of_keys key (a ++ b) ≡ true → is_one_of_keys key (a' ++ b') ≡ true
+in_both key a b a' b' first second is = by (is_one_of_keys key a) refl (sym (list_any-append (λ k. is_eq (text_cmp key k)) a b) ∙ is)
   where
-    by : (t : Bool) → is_key key a ≡ t → (t || is_key key b) ≡ true → is_key key (a' ++ b') ≡ true
+    by : (t : Bool) → is_one_of_keys key a ≡ t → (t || is_one_of_keys key b) ≡ true → is_one_of_keys key (a' ++ b') ≡ true
     by true has others = in_first key a' b' (first has)
     by false lacks others = in_second key a' b' (second others)
 
-pub key_alone : (key : Text) → is_key key (key ∷ []) ≡ true
+pub key_alone : (key : Text) → is_one_of_keys key (key ∷ []) ≡ true
 key_alone key = ap (λ o. is_eq o || false) (tied_itself nat_list_cmp_total key)
 
 -- ---- a key that comes after the others
@@ -93,43 +93,43 @@ rise_alone [] key none = (tt, tt)
 rise_alone (first ∷ keys) key none = no_last (first ∷ keys) (length (first ∷ keys) - 1) (omega arith) none
 
 -- a key that was appended is there
-pub pushed_is_key : (keys keys' : List Text) (key key' : Text) → key' ≡ key → keys' ≡ keys ++ key' ∷ [] → is_key key keys' ≡ true
+pub pushed_is_key : (keys keys' : List Text) (key key' : Text) → key' ≡ key → keys' ≡ keys ++ key' ∷ [] → is_one_of_keys key keys' ≡ true
 pushed_is_key keys keys' key key' same push =
-    ap (is_key key) push ∙ in_second key keys (key' ∷ []) (ap (λ k. is_key key (k ∷ [])) same ∙ key_alone key)
+    ap (is_one_of_keys key) push ∙ in_second key keys (key' ∷ []) (ap (λ k. is_one_of_keys key (k ∷ [])) same ∙ key_alone key)
 
 -- the last key is one of them
 pub last_is_key : (keys : List Text) (n : ℕ) (key last : Text) → slice_get keys n ≡ Some last → text_cmp key last ≡ Ordering.Equal
-    → is_key key keys ≡ true
+    → is_one_of_keys key keys ≡ true
 last_is_key [] n key last is same = absurd (cc)
 last_is_key (first ∷ keys) zero key last is same =
-    let here : first ≡ last = cc in ap (λ k. is_eq (text_cmp key k) || is_key key keys) here ∙ ap (λ o. is_eq o || is_key key keys) same
+    let here : first ≡ last = cc in ap (λ k. is_eq (text_cmp key k) || is_one_of_keys key keys) here ∙ ap (λ o. is_eq o || is_one_of_keys key keys) same
 last_is_key (first ∷ keys) (suc n) key last is same =
-    either (is_eq (text_cmp key first)) (is_key key keys) (last_is_key keys n key last is same)
+    either (is_eq (text_cmp key first)) (is_one_of_keys key keys) (last_is_key keys n key last is same)
 
 -- ---- keys that are added to others
 
-pub keys_push : (list : List Text) (key : Text) (old new : List Text) → AreKeysOf list old → AreKeysOf old new → is_key key new ≡ true
+pub keys_push : (list : List Text) (key : Text) (old new : List Text) → AreKeysOf list old → AreKeysOf old new → is_one_of_keys key new ≡ true
     → AreKeysOf (list ++ key ∷ []) new
-keys_push list key old new are stay put = λ k is. by k (is_key k list) refl (sym (list_any-append (λ q. is_eq (text_cmp k q)) list (key ∷ [])) ∙ is)
+keys_push list key old new are stay put = λ k is. by k (is_one_of_keys k list) refl (sym (list_any-append (λ q. is_eq (text_cmp k q)) list (key ∷ [])) ∙ is)
   where
-    last : (k : Text) (b : Bool) → is_eq (text_cmp k key) ≡ b → (b || false) ≡ true → is_key k new ≡ true
-    last k true same is = ap (λ q. is_key q new) (tied k key same) ∙ put
+    last : (k : Text) (b : Bool) → is_eq (text_cmp k key) ≡ b → (b || false) ≡ true → is_one_of_keys k new ≡ true
+    last k true same is = ap (λ q. is_one_of_keys q new) (tied k key same) ∙ put
     last k false differs is = absurd (cc)
 
-    by : (k : Text) (b : Bool) → is_key k list ≡ b → (b || is_key k (key ∷ [])) ≡ true → is_key k new ≡ true
+    by : (k : Text) (b : Bool) → is_one_of_keys k list ≡ b → (b || is_one_of_keys k (key ∷ [])) ≡ true → is_one_of_keys k new ≡ true
     by k true has is = stay k (are k has)
     by k false lacks is = last k (is_eq (text_cmp k key)) refl is
 
 pub keys_more : (list : List Text) (i : ℕ) (key : Text) (old new : List Text) → i < length list → key ≡ get_or list i key → AreKeysOf (take i list) old
-    → AreKeysOf old new → is_key key new ≡ true → AreKeysOf (take (i + 1) list) new
+    → AreKeysOf old new → is_one_of_keys key new ≡ true → AreKeysOf (take (i + 1) list) new
 keys_more list i key old new within here are stay put =
     subst (λ l. AreKeysOf l new) (ap (λ k. take i list ++ k ∷ []) here ∙ sym (take_more list i key within))
     (keys_push (take i list) key old new are stay put)
 
 pub keys_of_both : (first later mid all : List Text) → AreKeysOf first mid → AreKeysOf mid all → AreKeysOf later all → AreKeysOf (first ++ later) all
 keys_of_both first later mid all put stay more = λ key is.
-    by key (is_key key first) refl (sym (list_any-append (λ k. is_eq (text_cmp key k)) first later) ∙ is)
+    by key (is_one_of_keys key first) refl (sym (list_any-append (λ k. is_eq (text_cmp key k)) first later) ∙ is)
   where
-    by : (key : Text) (b : Bool) → is_key key first ≡ b → (b || is_key key later) ≡ true → is_key key all ≡ true
+    by : (key : Text) (b : Bool) → is_one_of_keys key first ≡ b → (b || is_one_of_keys key later) ≡ true → is_one_of_keys key all ≡ true
     by key true has is = stay key (put key has)
     by key false lacks is = more key is

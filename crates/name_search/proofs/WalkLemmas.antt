@@ -9,8 +9,8 @@ use Rattle.std.specs.declared.cmp.Ordering.{Ordering}
 use Rattle.std.proofs.lemmas.Cmp.{nat_list_cmp_total}
 use Rattle.lei_code.specs.Texts.{Text}
 use Rattle.name_search.specs.NameTables.{Name}
-use Rattle.name_search.specs.Keys.{is_key, text_cmp}
-use Rattle.name_search.specs.Walks.{Covers, hits, walk}
+use Rattle.name_search.specs.Keys.{is_one_of_keys, text_cmp}
+use Rattle.name_search.specs.Walks.{Covers, hits, walk_keys}
 
 pub text_same : IsAntisymmetric text_cmp
 text_same = slice_cmp-IsAntisymmetric nat_cmp-IsAntisymmetric
@@ -97,14 +97,14 @@ find_filter p q (e ∷ es) sorted =
 abbrev Rises : List Text → Type 0
 Rises keys = IsStrictlySortedBy text_cmp keys
 
-not_key : (q k : Text) (keys : List Text) → q ≡ k → AllByRecursion (λ j. text_cmp k j ≡ Ordering.Less) keys → is_key q keys ≡ false
+not_key : (q k : Text) (keys : List Text) → q ≡ k → AllByRecursion (λ j. text_cmp k j ≡ Ordering.Less) keys → is_one_of_keys q keys ≡ false
 not_key q k [] same above = refl
 not_key q k (j ∷ keys) same above =
-    ap (λ o. is_eq o || is_key q keys) (ap (λ x. text_cmp x j) same ∙ above.0) ∙ not_key q k keys same above.1
+    ap (λ o. is_eq o || is_one_of_keys q keys) (ap (λ x. text_cmp x j) same ∙ above.0) ∙ not_key q k keys same above.1
 
 module _ (p : Name → Bool) (names : List Name) where
   abbrev walked : List Text → List Name
-  walked keys = walk p names keys
+  walked keys = walk_keys p names keys
 
   below_hits : (k key : Text) (o : Option Text) (more : List Name) → text_cmp k key ≡ Ordering.Less → T (below_all text_cmp k more)
       → T (below_all text_cmp k (hits p key o ++ more))
@@ -154,13 +154,13 @@ module _ (p : Name → Bool) (names : List Name) where
       by false = refl
 
   find_walk : (q : Text) (keys : List Text) → Rises keys
-      → find text_cmp q (walked keys) ≡ cond (is_key q keys) (kept p q (find text_cmp q names)) None
+      → find text_cmp q (walked keys) ≡ cond (is_one_of_keys q keys) (kept p q (find text_cmp q names)) None
   unfolding IsStrictlySortedBy
   find_walk q [] rises = refl
   find_walk q (key ∷ keys) rises = by (find_walk q keys rises.1) (eq_by_cmp text_cmp q key) refl
     where
-      by : find text_cmp q (walked keys) ≡ cond (is_key q keys) (kept p q (find text_cmp q names)) None → (b : Bool) → eq_by_cmp text_cmp q key ≡ b
-          → find text_cmp q (hits p key (find text_cmp key names) ++ walked keys) ≡ cond (b || is_key q keys) (kept p q (find text_cmp q names)) None
+      by : find text_cmp q (walked keys) ≡ cond (is_one_of_keys q keys) (kept p q (find text_cmp q names)) None → (b : Bool) → eq_by_cmp text_cmp q key ≡ b
+          → find text_cmp q (hits p key (find text_cmp key names) ++ walked keys) ≡ cond (b || is_one_of_keys q keys) (kept p q (find text_cmp q names)) None
       by others true same =
           find_same q key (find text_cmp key names) (walked keys) same
           (others ∙ ap (λ b. cond b (kept p q (find text_cmp q names)) None) (not_key q key keys (tied q key same) rises.0))
@@ -168,19 +168,19 @@ module _ (p : Name → Bool) (names : List Name) where
       by others false differs = find_other q key (find text_cmp key names) (walked keys) differs ∙ others
 
   pub walk_is : (keys : List Text) → is_sorted text_cmp names ≡ true → IsStrictlySortedBy text_cmp keys → Covers p names keys
-      → walk p names keys ≡ filter p names
+      → walk_keys p names keys ≡ filter p names
   walk_is keys ascends rises covers =
       let sorted : T (is_sorted text_cmp names) = subst T (sym ascends) tt in
       same_entries text_cmp nat_list_cmp_total text_same (walked keys) (filter p names) (sorted_walk keys rises) (sorted_filter p names sorted)
       (λ q. find_walk q keys rises ∙ by q (find text_cmp q names) refl ∙ sym (find_filter p q names sorted))
     where
       passes : (q name : Text) (t : Bool) → p (q, name) ≡ t → find text_cmp q names ≡ Some name
-          → cond (is_key q keys) (cond t (Some name) None) None ≡ cond t (Some name) None
+          → cond (is_one_of_keys q keys) (cond t (Some name) None) None ≡ cond t (Some name) None
       passes q name true is found = ap (λ b. cond b (Some name) None) (covers q name found is)
-      passes q name false isnt found = nothing (is_key q keys)
+      passes q name false isnt found = nothing (is_one_of_keys q keys)
 
-      by : (q : Text) (o : Option Text) → find text_cmp q names ≡ o → cond (is_key q keys) (kept p q o) None ≡ kept p q o
-      by q None found = nothing (is_key q keys)
+      by : (q : Text) (o : Option Text) → find text_cmp q names ≡ o → cond (is_one_of_keys q keys) (kept p q o) None ≡ kept p q o
+      by q None found = nothing (is_one_of_keys q keys)
       by q (Some name) found = passes q name (p (q, name)) refl found
 
 -- if there are no keys to cover them, no name passes

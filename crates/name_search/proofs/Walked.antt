@@ -10,13 +10,13 @@ use Rattle.lei_records.specs.Rows.{text_at}
 use Rattle.lei_records.specs.Tables.{key_cmp}
 use Rattle.register_words.specs.declared.sheets.Sheet.{Sheet}
 use Rattle.copy_csv.specs.declared.rows.Change.{Change}
-use Rattle.copy_csv.specs.Rows.{AreChanges, AreRows, IsChangeOf, IsRowOf, changed_key, changed_row}
+use Rattle.copy_csv.specs.Rows.{AreChanges, AreRows, IsChangeOf, IsRowOfSheet, changed_key, changed_row}
 use Rattle.copy_csv.specs.Sheets.{SheetRow, key}
 use Rattle.copy_forms.specs.Patching.{patched}
-use Rattle.copy_forms.specs.Merging.{merged, placed, put_by}
+use Rattle.copy_forms.specs.Merging.{put_by, row_among_changes, rows_with_changes}
 use Rattle.copy_forms.proofs.Merged.{merged_is, rows_stay}
 use Rattle.name_search.specs.Keys.{text_cmp}
-use Rattle.name_search.specs.NameTables.{IsTableOf, Name, NameTable, named}
+use Rattle.name_search.specs.NameTables.{IsNameTable, Name, NameTable, key_and_name}
 use Rattle.name_search.specs.Places.{IsAbove, IsBelow, IsHere}
 use Rattle.name_search.specs.Puts.{put_name, put_names}
 use Rattle.name_search.proofs.KeyLemmas.{key_order}
@@ -73,41 +73,41 @@ room_after out mid new rows left rest puts front puts' n room within moved left_
 -- ---- one change
 
 module _ (change : Change) (cs : List Change) (q : Text)
-    (orders : (row : SheetRow) → IsRowOf Sheet.Lei row → key_cmp (changed_key change) (key row) ≡ text_cmp q (named row).0) where
+    (orders : (row : SheetRow) → IsRowOfSheet Sheet.Lei row → key_cmp (changed_key change) (key row) ≡ text_cmp q (key_and_name row).0) where
   -- what a row makes of it and of those after it, by how their keys compare
   abbrev by_row : SheetRow → List SheetRow → Ordering → List SheetRow
-  by_row row rest o = by_order o (put_by change ++ placed row (merged rest) cs) (put_by change ++ merged rest cs) (row ∷ merged rest (change ∷ cs))
+  by_row row rest o = by_order o (put_by change ++ row_among_changes row (rows_with_changes rest) cs) (put_by change ++ rows_with_changes rest cs) (row ∷ rows_with_changes rest (change ∷ cs))
 
   -- the rows with lesser keys stay before it
-  passes_lesser : (n : ℕ) (rest : List SheetRow) → All (IsRowOf Sheet.Lei) rest → n ≤ length rest → IsBelow (map named rest) q n
-      → take n rest ++ merged (drop n rest) (change ∷ cs) ≡ merged rest (change ∷ cs)
+  passes_lesser : (n : ℕ) (rest : List SheetRow) → All (IsRowOfSheet Sheet.Lei) rest → n ≤ length rest → IsBelow (map key_and_name rest) q n
+      → take n rest ++ rows_with_changes (drop n rest) (change ∷ cs) ≡ rows_with_changes rest (change ∷ cs)
   passes_lesser zero rest each within below = refl
   passes_lesser (suc n) [] each within below = absurd (omega arith)
   passes_lesser (suc n) (row ∷ rest) each within below =
-      ap (λ l. row ∷ l) (passes_lesser n rest (All-tail (IsRowOf Sheet.Lei) row rest each) (omega arith) (λ k d before. below (suc k) d (omega arith)))
-      ∙ sym (ap (by_row row rest) (orders row (All-head (IsRowOf Sheet.Lei) row rest each) ∙ below 0 (named row) (omega arith)))
+      ap (λ l. row ∷ l) (passes_lesser n rest (All-tail (IsRowOfSheet Sheet.Lei) row rest each) (omega arith) (λ k d before. below (suc k) d (omega arith)))
+      ∙ sym (ap (by_row row rest) (orders row (All-head (IsRowOfSheet Sheet.Lei) row rest each) ∙ below 0 (key_and_name row) (omega arith)))
 
   -- it takes the place of the row with its key
-  passes_same : (rest : List SheetRow) → All (IsRowOf Sheet.Lei) rest → 1 ≤ length rest → IsHere (map named rest) q 0
-      → merged rest (change ∷ cs) ≡ put_by change ++ merged (drop 1 rest) cs
+  passes_same : (rest : List SheetRow) → All (IsRowOfSheet Sheet.Lei) rest → 1 ≤ length rest → IsHere (map key_and_name rest) q 0
+      → rows_with_changes rest (change ∷ cs) ≡ put_by change ++ rows_with_changes (drop 1 rest) cs
   passes_same [] each some here = absurd (omega arith)
   passes_same (row ∷ rest) each some here =
-      ap (by_row row rest) (orders row (All-head (IsRowOf Sheet.Lei) row rest each) ∙ here (named row))
+      ap (by_row row rest) (orders row (All-head (IsRowOfSheet Sheet.Lei) row rest each) ∙ here (key_and_name row))
 
   -- or it comes before those with greater keys
-  passes_greater : (rest : List SheetRow) → All (IsRowOf Sheet.Lei) rest → IsAbove (map named rest) q 0
-      → merged rest (change ∷ cs) ≡ put_by change ++ merged rest cs
+  passes_greater : (rest : List SheetRow) → All (IsRowOfSheet Sheet.Lei) rest → IsAbove (map key_and_name rest) q 0
+      → rows_with_changes rest (change ∷ cs) ≡ put_by change ++ rows_with_changes rest cs
   passes_greater [] each above = refl
   passes_greater (row ∷ rest) each above =
-      ap (by_row row rest) (orders row (All-head (IsRowOf Sheet.Lei) row rest each) ∙ above 0 (named row) (omega arith) (omega arith))
+      ap (by_row row rest) (orders row (All-head (IsRowOfSheet Sheet.Lei) row rest each) ∙ above 0 (key_and_name row) (omega arith) (omega arith))
 
 -- how a change's key compares with those of rows
-orders_so : (change : Change) (q : Text) → IsChangeOf Sheet.Lei change → q ≡ text_at (changed_row change).texts 1 → (row : SheetRow) → IsRowOf Sheet.Lei row
-    → key_cmp (changed_key change) (key row) ≡ text_cmp q (named row).0
+orders_so : (change : Change) (q : Text) → IsChangeOf Sheet.Lei change → q ≡ text_at (changed_row change).texts 1 → (row : SheetRow) → IsRowOfSheet Sheet.Lei row
+    → key_cmp (changed_key change) (key row) ≡ text_cmp q (key_and_name row).0
 orders_so change q is q_is row row_is =
-    sym (key_order (changed_row change) row (named row) (text_cmp q (named row).0) is.0.0 is.0.1 row_is refl (ap (λ t. text_cmp t (named row).0) q_is))
+    sym (key_order (changed_row change) row (key_and_name row) (text_cmp q (key_and_name row).0) is.0.0 is.0.1 row_is refl (ap (λ t. text_cmp t (key_and_name row).0) q_is))
 
-put_names_by : (change : Change) → put_name change ≡ map named (put_by change)
+put_names_by : (change : Change) → put_name change ≡ map key_and_name (put_by change)
 put_names_by (Change.Put row) = refl
 put_names_by (Change.Drop row) = refl
 
@@ -116,14 +116,14 @@ put_names_by (Change.Drop row) = refl
 -- what was put, followed by what the remaining rows and changes result in, is what all result in
 pub record Walked (copy : List SheetRow) (changes : List Change) (left : List Name) (next : ℕ) (out : List Name) : Type 0 where
   pub rest : List SheetRow
-  pub each : All (IsRowOf Sheet.Lei) rest
-  pub left_is : left ≡ map named rest
-  pub walk : out ++ map named (merged rest (drop next changes)) ≡ map named (merged copy changes)
+  pub each : All (IsRowOfSheet Sheet.Lei) rest
+  pub left_is : left ≡ map key_and_name rest
+  pub walk : out ++ map key_and_name (rows_with_changes rest (drop next changes)) ≡ map key_and_name (rows_with_changes copy changes)
 
 -- the same for each copy that has these names
 abbrev pub WalkedSo : List Name → List Change → List Name → ℕ → List Name → Type 0
 WalkedSo names changes left next out =
-    (copy : List SheetRow) → AreRows Sheet.Lei copy → names ≡ map named copy → Walked copy changes left next out
+    (copy : List SheetRow) → AreRows Sheet.Lei copy → names ≡ map key_and_name copy → Walked copy changes left next out
 
 pub walk_begins : (names : List Name) (changes : List Change) (left : List Name) (out : List Name) → left ≡ names → out ≡ []
     → WalkedSo names changes left 0 out
@@ -131,26 +131,26 @@ walk_begins names changes left out all empty = λ copy are is. record {
   rest = copy;
   each = are.each;
   left_is = all ∙ is;
-  walk = ap (λ l. l ++ map named (merged copy changes)) empty;
+  walk = ap (λ l. l ++ map key_and_name (rows_with_changes copy changes)) empty;
 }
 
 -- rows with lesser keys were put, and then what the change puts
-put_after : (rest rest' : List SheetRow) (change : Change) (cs : List Change) (left out out1 out2 all : List Name) (n : ℕ) → left ≡ map named rest
+put_after : (rest rest' : List SheetRow) (change : Change) (cs : List Change) (left out out1 out2 all : List Name) (n : ℕ) → left ≡ map key_and_name rest
     → out1 ≡ out ++ take n left → out2 ≡ out1 ++ put_name change
-    → take n rest ++ merged (drop n rest) (change ∷ cs) ≡ merged rest (change ∷ cs)
-    → merged (drop n rest) (change ∷ cs) ≡ put_by change ++ merged rest' cs
-    → out ++ map named (merged rest (change ∷ cs)) ≡ all → out2 ++ map named (merged rest' cs) ≡ all
+    → take n rest ++ rows_with_changes (drop n rest) (change ∷ cs) ≡ rows_with_changes rest (change ∷ cs)
+    → rows_with_changes (drop n rest) (change ∷ cs) ≡ put_by change ++ rows_with_changes rest' cs
+    → out ++ map key_and_name (rows_with_changes rest (change ∷ cs)) ≡ all → out2 ++ map key_and_name (rows_with_changes rest' cs) ≡ all
 put_after rest rest' change cs left out out1 out2 all n is lesser put passes then walk =
-    let front : take n left ≡ map named (take n rest) = ap (take n) is ∙ take-map named n rest in
-    let more : put_name change ++ map named (merged rest' cs) ≡ map named (merged (drop n rest) (change ∷ cs)) =
-    ap (λ l. l ++ map named (merged rest' cs)) (put_names_by change) ∙ sym (map-append named (put_by change) (merged rest' cs)) ∙ ap (map named) (sym then) in
-    ap (λ l. l ++ map named (merged rest' cs)) put
-    ∙ append_assoc out1 (put_name change) (map named (merged rest' cs))
+    let front : take n left ≡ map key_and_name (take n rest) = ap (take n) is ∙ take-map key_and_name n rest in
+    let more : put_name change ++ map key_and_name (rows_with_changes rest' cs) ≡ map key_and_name (rows_with_changes (drop n rest) (change ∷ cs)) =
+    ap (λ l. l ++ map key_and_name (rows_with_changes rest' cs)) (put_names_by change) ∙ sym (map-append key_and_name (put_by change) (rows_with_changes rest' cs)) ∙ ap (map key_and_name) (sym then) in
+    ap (λ l. l ++ map key_and_name (rows_with_changes rest' cs)) put
+    ∙ append_assoc out1 (put_name change) (map key_and_name (rows_with_changes rest' cs))
     ∙ ap (λ l. out1 ++ l) more
-    ∙ ap (λ l. l ++ map named (merged (drop n rest) (change ∷ cs))) lesser
-    ∙ append_assoc out (take n left) (map named (merged (drop n rest) (change ∷ cs)))
-    ∙ ap (λ l. out ++ (l ++ map named (merged (drop n rest) (change ∷ cs)))) front
-    ∙ ap (λ l. out ++ l) (sym (map-append named (take n rest) (merged (drop n rest) (change ∷ cs))) ∙ ap (map named) passes)
+    ∙ ap (λ l. l ++ map key_and_name (rows_with_changes (drop n rest) (change ∷ cs))) lesser
+    ∙ append_assoc out (take n left) (map key_and_name (rows_with_changes (drop n rest) (change ∷ cs)))
+    ∙ ap (λ l. out ++ (l ++ map key_and_name (rows_with_changes (drop n rest) (change ∷ cs)))) front
+    ∙ ap (λ l. out ++ l) (sym (map-append key_and_name (take n rest) (rows_with_changes (drop n rest) (change ∷ cs))) ∙ ap (map key_and_name) passes)
     ∙ walk
 
 -- one change
@@ -161,7 +161,7 @@ module _ (names : List Name) (changes : List Change) (left : List Name) (i : ℕ
   abbrev cs : List Change
   cs = drop (i + 1) changes
 
-  orders : (row : SheetRow) → IsRowOf Sheet.Lei row → key_cmp (changed_key change) (key row) ≡ text_cmp q (named row).0
+  orders : (row : SheetRow) → IsRowOfSheet Sheet.Lei row → key_cmp (changed_key change) (key row) ≡ text_cmp q (key_and_name row).0
   orders = orders_so change q is_change q_is
 
   next : drop i changes ≡ change ∷ cs
@@ -169,32 +169,32 @@ module _ (names : List Name) (changes : List Change) (left : List Name) (i : ℕ
 
   module _ (copy : List SheetRow) (w : Walked copy changes left i out) where
     fits : n ≤ length w.rest
-    fits = let long : length (map named w.rest) ≡ length w.rest = length-map w.rest named in omega (arith, ap length w.left_is)
+    fits = let long : length (map key_and_name w.rest) ≡ length w.rest = length-map w.rest key_and_name in omega (arith, ap length w.left_is)
 
-    lesser_pass : take n w.rest ++ merged (drop n w.rest) (change ∷ cs) ≡ merged w.rest (change ∷ cs)
+    lesser_pass : take n w.rest ++ rows_with_changes (drop n w.rest) (change ∷ cs) ≡ rows_with_changes w.rest (change ∷ cs)
     lesser_pass = passes_lesser change cs q orders n w.rest w.each fits (subst (λ l. IsBelow l q n) w.left_is below)
 
-    walk_now : out ++ map named (merged w.rest (change ∷ cs)) ≡ map named (merged copy changes)
-    walk_now = ap (λ l. out ++ map named (merged w.rest l)) (sym next) ∙ w.walk
+    walk_now : out ++ map key_and_name (rows_with_changes w.rest (change ∷ cs)) ≡ map key_and_name (rows_with_changes copy changes)
+    walk_now = ap (λ l. out ++ map key_and_name (rows_with_changes w.rest l)) (sym next) ∙ w.walk
 
-    dropped : drop n left ≡ map named (drop n w.rest)
-    dropped = ap (drop n) w.left_is ∙ drop-map named n w.rest
+    dropped : drop n left ≡ map key_and_name (drop n w.rest)
+    dropped = ap (drop n) w.left_is ∙ drop-map key_and_name n w.rest
 
-    rest_each : All (IsRowOf Sheet.Lei) (drop n w.rest)
-    rest_each = All-drop (IsRowOf Sheet.Lei) n w.rest w.each
+    rest_each : All (IsRowOfSheet Sheet.Lei) (drop n w.rest)
+    rest_each = All-drop (IsRowOfSheet Sheet.Lei) n w.rest w.each
 
   pub walk_same : (out1 left1 left2 out2 : List Name) → n < length left → IsHere left q n → out1 ≡ out ++ take n left → left1 ≡ drop n left
       → left2 ≡ drop 1 left1 → out2 ≡ out1 ++ put_name change → WalkedSo names changes left2 (i + 1) out2
   walk_same out1 left1 left2 out2 some same lesser after first put = λ copy are is.
       let w : Walked copy changes left i out = walked copy are is in
       let some_rest : 1 ≤ length (drop n w.rest) =
-      (let long : length (map named (drop n w.rest)) ≡ length (drop n w.rest) = length-map (drop n w.rest) named in
+      (let long : length (map key_and_name (drop n w.rest)) ≡ length (drop n w.rest) = length-map (drop n w.rest) key_and_name in
       omega (arith, ap length (dropped copy w), length-drop n left)) in
       record {
         rest = drop 1 (drop n w.rest);
-        each = All-drop (IsRowOf Sheet.Lei) 1 (drop n w.rest) (rest_each copy w);
-        left_is = first ∙ ap (drop 1) (after ∙ dropped copy w) ∙ drop-map named 1 (drop n w.rest);
-        walk = put_after w.rest (drop 1 (drop n w.rest)) change cs left out out1 out2 (map named (merged copy changes)) n w.left_is lesser put (lesser_pass copy w)
+        each = All-drop (IsRowOfSheet Sheet.Lei) 1 (drop n w.rest) (rest_each copy w);
+        left_is = first ∙ ap (drop 1) (after ∙ dropped copy w) ∙ drop-map key_and_name 1 (drop n w.rest);
+        walk = put_after w.rest (drop 1 (drop n w.rest)) change cs left out out1 out2 (map key_and_name (rows_with_changes copy changes)) n w.left_is lesser put (lesser_pass copy w)
             (passes_same change cs q orders (drop n w.rest) (rest_each copy w) some_rest (subst (λ l. IsHere l q 0) (dropped copy w) (here_drop n left q same)))
             (walk_now copy w);
       }
@@ -207,31 +207,31 @@ module _ (names : List Name) (changes : List Change) (left : List Name) (i : ℕ
         rest = drop n w.rest;
         each = rest_each copy w;
         left_is = after ∙ dropped copy w;
-        walk = put_after w.rest (drop n w.rest) change cs left out out1 out2 (map named (merged copy changes)) n w.left_is lesser put (lesser_pass copy w)
+        walk = put_after w.rest (drop n w.rest) change cs left out out1 out2 (map key_and_name (rows_with_changes copy changes)) n w.left_is lesser put (lesser_pass copy w)
             (passes_greater change cs q orders (drop n w.rest) (rest_each copy w) (subst (λ l. IsAbove l q 0) (dropped copy w) (above_drop n left q above)))
             (walk_now copy w);
       }
 
-merged_none : (rest : List SheetRow) → merged rest [] ≡ rest
+merged_none : (rest : List SheetRow) → rows_with_changes rest [] ≡ rest
 merged_none [] = refl
 merged_none (row ∷ rest) = ap (λ l. row ∷ l) (merged_none rest)
 
 -- after the last change, the rest of the rows are put
 pub walk_ends : (names : List Name) (changes : List Change) (left : List Name) (i n : ℕ) (out out' : List Name) → AreChanges Sheet.Lei changes
     → WalkedSo names changes left i out → length changes ≤ i → length left ≤ n → out' ≡ out ++ take n left
-    → (copy : List SheetRow) → AreRows Sheet.Lei copy → names ≡ map named copy → out' ≡ map named (patched copy changes)
+    → (copy : List SheetRow) → AreRows Sheet.Lei copy → names ≡ map key_and_name copy → out' ≡ map key_and_name (patched copy changes)
 walk_ends names changes left i n out out' are walked past all put copy rows is =
     let w : Walked copy changes left i out = walked copy rows is in
-    put ∙ ap (λ l. out ++ l) (take_all n left all ∙ w.left_is ∙ ap (map named) (sym (merged_none w.rest)))
-    ∙ ap (λ l. out ++ map named (merged w.rest l)) (sym (drop_all i changes past))
-    ∙ w.walk ∙ ap (map named) (merged_is copy changes rows.rising are.rising)
+    put ∙ ap (λ l. out ++ l) (take_all n left all ∙ w.left_is ∙ ap (map key_and_name) (sym (merged_none w.rest)))
+    ∙ ap (λ l. out ++ map key_and_name (rows_with_changes w.rest l)) (sym (drop_all i changes past))
+    ∙ w.walk ∙ ap (map key_and_name) (merged_is copy changes rows.rising are.rising)
 
 -- so the names of a table are those of the patched rows
 pub table_after : (rows : List SheetRow) (changes changes' : List Change) (table new : NameTable) (names : List Name) → changes' ≡ changes
     → AreChanges Sheet.Lei changes → names ≡ table.names
-    → ((copy : List SheetRow) → AreRows Sheet.Lei copy → names ≡ map named copy → new.names ≡ map named (patched copy changes'))
-    → IsTableOf rows table → IsTableOf (patched rows changes) new
+    → ((copy : List SheetRow) → AreRows Sheet.Lei copy → names ≡ map key_and_name copy → new.names ≡ map key_and_name (patched copy changes'))
+    → IsNameTable rows table → IsNameTable (patched rows changes) new
 table_after rows changes changes' table new names same are old merges is = record {
   rows_are = rows_stay Sheet.Lei rows changes is.rows_are are;
-  names_are = merges rows is.rows_are (old ∙ is.names_are) ∙ ap (λ l. map named (patched rows l)) same;
+  names_are = merges rows is.rows_are (old ∙ is.names_are) ∙ ap (λ l. map key_and_name (patched rows l)) same;
 }

@@ -11,9 +11,9 @@ abbrev pub text_cmp : Text → Text → Ordering
 text_cmp = slice_cmp nat_cmp
 
 -- A key is one of these.
-abbrev pub is_key : Text → List Text → Bool
-is_key key keys = list_any (eq_by_cmp text_cmp key) keys
+abbrev pub is_one_of_keys : Text → List Text → Bool
+is_one_of_keys key keys = list_any (eq_by_cmp text_cmp key) keys
 
 -- Each of these keys is one of those.
 abbrev pub AreKeysOf : List Text → List Text → Type 0
-AreKeysOf these those = (key : Text) → is_key key these ≡ true → is_key key those ≡ true
+AreKeysOf these those = (key : Text) → is_one_of_keys key these ≡ true → is_one_of_keys key those ≡ true

@@ -15,8 +15,8 @@ abbrev pub Name : Type 0
 Name = Text × Text
 
 -- They are the first and the second text of the row.
-abbrev pub named : SheetRow → Name
-named row = (text_at row.texts 1, text_at row.texts 2)
+abbrev pub key_and_name : SheetRow → Name
+key_and_name row = (text_at row.texts 1, text_at row.texts 2)
 
 -- What an index has of a copy: the number of its publication, its width, and the key and the name of each row, in the
 -- order of the rows. The number is known only in JSON.
@@ -26,32 +26,32 @@ pub record NameTable : Type 0 where
   pub names : List Name
 
 -- The table has the names of these rows, which are rows of `lei` with rising keys.
-pub record IsTableOf (rows : List SheetRow) (table : NameTable) : Type 0 where
+pub record IsNameTable (rows : List SheetRow) (table : NameTable) : Type 0 where
   pub rows_are : AreRows Sheet.Lei rows
-  pub names_are : table.names ≡ map named rows
+  pub names_are : table.names ≡ map key_and_name rows
 
 -- The number of the publication of a copy or a delta, which is known only in JSON.
 abbrev pub number_in : Option Head → Option ℕ
 number_in head = option_map (λ head. head.publication) head
 
 -- The number of the publication that a delta starts from, which is known only in JSON.
-abbrev pub base_of : DeltaRead → Option ℕ
-base_of delta = option_map (λ head. head.from) delta.head
+abbrev pub delta_base : DeltaRead → Option ℕ
+delta_base delta = option_map (λ head. head.from) delta.head
 
 -- The delta starts from the copy's publication. In CSV no numbers are known, and nothing is required.
-abbrev pub GoesFrom : NameTable → DeltaRead → Type 0
-GoesFrom table delta = table.publication ≡ base_of delta
+abbrev pub GoesFromTable : NameTable → DeltaRead → Type 0
+GoesFromTable table delta = table.publication ≡ delta_base delta
 
 -- The copy takes the delta: it starts from the copy's publication, and a wide copy takes no narrow delta.
-pub record Takes (table : NameTable) (delta : DeltaRead) : Type 0 where
-  pub goes_from : GoesFrom table delta
+pub record MayTakeDelta (table : NameTable) (delta : DeltaRead) : Type 0 where
+  pub goes_from : GoesFromTable table delta
   pub newer : table.wide ≡ true → delta.wide ≡ true
 
 -- Why a copy doesn't take a delta. Either the delta starts from another publication, and the fault has the numbers of
 -- both; or it starts from this one and is narrow, and the copy is wide. Nothing is said about `NoMemory`.
-abbrev pub IsRefusal : NameTable → DeltaRead → TakeFault → Type 0
-IsRefusal table delta (faults.WrongBase publication from) =
-    (table.publication ≡ Some publication) × (base_of delta ≡ Some from) × (publication ≢ from)
-IsRefusal table delta faults.OlderDelta =
-    GoesFrom table delta × (table.wide ≡ true) × (delta.wide ≡ false)
-IsRefusal table delta faults.NoMemory = ⊤
+abbrev pub IsTakeFault : NameTable → DeltaRead → TakeFault → Type 0
+IsTakeFault table delta (faults.WrongBase publication from) =
+    (table.publication ≡ Some publication) × (delta_base delta ≡ Some from) × (publication ≢ from)
+IsTakeFault table delta faults.OlderDelta =
+    GoesFromTable table delta × (table.wide ≡ true) × (delta.wide ≡ false)
+IsTakeFault table delta faults.NoMemory = ⊤

@@ -3,11 +3,11 @@ use Rattle.std.specs.Prelude.{List, [], ◌∷◌, flat_map}
 use Rattle.copy_csv.specs.declared.rows.Change.{Change}
 use Rattle.copy_csv.specs.Sheets.{SheetRow}
 use Rattle.copy_forms.specs.Merging.{put_by}
-use Rattle.name_search.specs.NameTables.{Name, named}
+use Rattle.name_search.specs.NameTables.{Name, key_and_name}
 
 -- The name of a row, as a list.
 abbrev pub named_alone : SheetRow → List Name
-named_alone row = named row ∷ []
+named_alone row = key_and_name row ∷ []
 
 -- The name of the row that a change puts, if it puts one.
 abbrev pub put_name : Change → List Name

@@ -7,12 +7,12 @@ use Rattle.name_search.specs.NameTables.{Name}
 use Rattle.name_search.specs.Words.{words}
 
 -- A word is among these.
-abbrev pub is_among : List Text → Text → Bool
-is_among these word = list_any (bytes_eq word) these
+abbrev pub is_word_among : List Text → Text → Bool
+is_word_among these word = list_any (bytes_eq word) these
 
 -- Each of the wanted words is among these.
 abbrev pub has_each : List Text → List Text → Bool
-has_each wanted these = list_all (is_among these) wanted
+has_each wanted these = list_all (is_word_among these) wanted
 
 -- The name has each of the wanted words among its own.
 abbrev pub is_match : List Text → Name → Bool

@@ -10,9 +10,9 @@ use Rattle.register_words.specs.declared.sheets.Sheet.{Sheet}
 use Rattle.copy_csv.specs.Rows.{AreRows}
 use Rattle.copy_csv.specs.Sheets.{SheetRow}
 use Rattle.name_search.specs.declared.postings.Postings.{Postings}
-use Rattle.name_search.specs.Keys.{AreKeysOf, is_key, text_cmp}
-use Rattle.name_search.specs.NameTables.{Name, named}
-use Rattle.name_search.specs.Searching.{is_among}
+use Rattle.name_search.specs.Keys.{AreKeysOf, is_one_of_keys, text_cmp}
+use Rattle.name_search.specs.NameTables.{Name, key_and_name}
+use Rattle.name_search.specs.Searching.{is_word_among}
 use Rattle.name_search.specs.Words.{words}
 
 -- ---- what is noted
@@ -42,16 +42,16 @@ LaterStays old new = (word : Text) → AreKeysOf (keys_in (get_by_text old word)
 
 -- The key of a name is noted under each of its words.
 abbrev pub is_noted : Postings → Name → Bool
-is_noted postings name = list_all (λ word. is_key name.0 (keys_under postings word)) (words name.1)
+is_noted postings name = list_all (λ word. is_one_of_keys name.0 (keys_under postings word)) (words name.1)
 
 -- There is a name, and it has a word.
 abbrev pub has_word : Option Name → Text → Bool
 has_word None word = false
-has_word (Some name) word = is_among (words name.1) word
+has_word (Some name) word = is_word_among (words name.1) word
 
 -- What is noted in the old postings is noted in the new ones.
-abbrev pub Stays : Postings → Postings → Type 0
-Stays old new = (word key : Text) → is_key key (keys_under old word) ≡ true → is_key key (keys_under new word) ≡ true
+abbrev pub NotesStay : Postings → Postings → Type 0
+NotesStay old new = (word key : Text) → is_one_of_keys key (keys_under old word) ≡ true → is_one_of_keys key (keys_under new word) ≡ true
 
 -- If all of these names are noted in the old postings, they are noted in the new ones.
 abbrev pub StaysFor : List Name → Postings → Postings → Type 0
@@ -62,13 +62,13 @@ abbrev pub TakesFrom : {Y : Type 0} → Text → Text → BTreeMap (String Y) (B
     → BTreeMap (String Y) (BTreeSet Text) → Type 0
 TakesFrom word key old new =
     (other k : Text) → (bytes_eq word other && bytes_eq key k) ≡ false
-    → is_key k (keys_in (get_by_text old other)) ≡ true → is_key k (keys_in (get_by_text new other)) ≡ true
+    → is_one_of_keys k (keys_in (get_by_text old other)) ≡ true → is_one_of_keys k (keys_in (get_by_text new other)) ≡ true
 
 -- The names are those of a copy's rows, and each is noted.
-pub record IsIndexed (names : List Name) (postings : Postings) : Type 0 where
+pub record NamesAreIndexed (names : List Name) (postings : Postings) : Type 0 where
   pub copy : List SheetRow
   pub copy_is : AreRows Sheet.Lei copy
-  pub names_are : names ≡ map named copy
+  pub names_are : names ≡ map key_and_name copy
   pub noted : list_all (is_noted postings) names ≡ true
 
 -- ---- a walk
@@ -79,10 +79,10 @@ hits test key None = []
 hits test key (Some name) = if test (key, name) then (key, name) ∷ [] else []
 
 -- The names under these keys that pass a test.
-abbrev pub walk : (Name → Bool) → List Name → List Text → List Name
-walk test names keys = flat_map (λ key. hits test key (find text_cmp key names)) keys
+abbrev pub walk_keys : (Name → Bool) → List Name → List Text → List Name
+walk_keys test names keys = flat_map (λ key. hits test key (find text_cmp key names)) keys
 
 -- The keys are those of all names that pass a test, and maybe others.
 abbrev pub Covers : (Name → Bool) → List Name → List Text → Type 0
 Covers test names keys =
-    (key name : Text) → find text_cmp key names ≡ Some name → test (key, name) ≡ true → is_key key keys ≡ true
+    (key name : Text) → find text_cmp key names ≡ Some name → test (key, name) ≡ true → is_one_of_keys key keys ≡ true

@@ -16,15 +16,15 @@ abbrev pub is_separator : ℕ → Bool
 is_separator c = is_whitespace c || (nat_lt c 128 && not (is_ascii_alphanumeric c))
 
 -- These texts, with a text put in front of the first one.
-abbrev pub with_front : Text → List Text → List Text
-with_front text [] = text ∷ []
-with_front text (first ∷ others) = (text ++ first) ∷ others
+abbrev pub with_first_bytes : Text → List Text → List Text
+with_first_bytes text [] = text ∷ []
+with_first_bytes text (first ∷ others) = (text ++ first) ∷ others
 
 -- The pieces before, between and after the separators among some characters, each as its UTF-8 bytes. Between two
 -- adjacent separators there is an empty piece.
-abbrev pub pieces : List ℕ → List Text
-pieces [] = [] ∷ []
-pieces (c ∷ cs) = if is_separator c then [] ∷ pieces cs else with_front (encode_utf8 c) (pieces cs)
+abbrev pub word_pieces : List ℕ → List Text
+word_pieces [] = [] ∷ []
+word_pieces (c ∷ cs) = if is_separator c then [] ∷ word_pieces cs else with_first_bytes (encode_utf8 c) (word_pieces cs)
 
 -- The piece isn't empty.
 abbrev pub is_word : Text → Bool
@@ -34,4 +34,4 @@ is_word (byte ∷ bytes) = true
 -- The words of a text: the pieces of its folded characters, without the empty ones. A word that occurs twice is in the
 -- list twice.
 unfoldable pub words : Text → List Text
-words text = filter is_word (pieces (folded_chars text))
+words text = filter is_word (word_pieces (folded_chars text))

@@ -5,7 +5,7 @@ ghost use Rattle.name_search.specs.Keys.{AreKeysOf, text_cmp};
 ghost use Rattle.name_search.specs.Walks.{Covers, hits, keys_in};
 ghost use Rattle.std.specs.List.Sorted.{IsStrictlySortedBy};
 ghost use Rattle.std.specs.FinMap.Entries.{find, is_sorted};
-ghost use Rattle.name_search.specs.Gathering.{Gathers};
+ghost use Rattle.name_search.specs.Gathering.{GathersPage};
 ghost use Rattle.name_search.specs.NameTables.{Name};
 
 use crate::key::Key;
@@ -28,8 +28,8 @@ impl Gathered {
     pub fn add(&mut self, alloc: Global, start: u64, row: &NamedRow) -> Result<(), NoMemory>
         requires fits { self.old.matches < 18_446_744_073_709_551_615 }
         ensures { OnOk result ((before : List Name)
-            → Gathers start before self.old.matches self.old.names.items
-            → Gathers start (before ++ row.now ∷ []) self.new.matches self.new.names.items) }
+            → GathersPage start before self.old.matches self.old.names.items
+            → GathersPage start (before ++ row.now ∷ []) self.new.matches self.new.names.items) }
     {
         let count = self.matches;
         self.matches += 1;
@@ -51,7 +51,7 @@ pub fn gather_all(
     wanted: &[Text],
     rows: &[NamedRow],
 ) -> Result<Gathered, NoMemory>
-    ensures { IfOk result (λ gathered. Gathers start (filter (spec.is_match wanted.now) rows.now)
+    ensures { IfOk result (λ gathered. GathersPage start (filter (spec.is_match wanted.now) rows.now)
         gathered.matches gathered.names.items) }
 {
     let mut gathered = nothing(alloc);
@@ -77,7 +77,7 @@ pub fn gather_under(
     requires rising { IsStrictlySortedBy text_cmp first.now }
     requires covers { Covers (spec.is_match wanted.now) rows.now
         (first.now ++ keys_in (option_map (λ keys. keys.now) later)) }
-    ensures { IfOk result (λ gathered. Gathers start (filter (spec.is_match wanted.now) rows.now)
+    ensures { IfOk result (λ gathered. GathersPage start (filter (spec.is_match wanted.now) rows.now)
         gathered.matches gathered.names.items) }
 {
     match later {
@@ -97,7 +97,7 @@ fn gather_both(
 ) -> Result<Gathered, NoMemory>
     requires sorted { is_sorted text_cmp rows.now ≡ true }
     requires covers { Covers (spec.is_match wanted.now) rows.now (first.now ++ later.now.keys) }
-    ensures { IfOk result (λ gathered. Gathers start (filter (spec.is_match wanted.now) rows.now)
+    ensures { IfOk result (λ gathered. GathersPage start (filter (spec.is_match wanted.now) rows.now)
         gathered.matches gathered.names.items) }
 {
     let mut keys = BTreeSet::new(alloc);
@@ -139,7 +139,7 @@ fn gather_rising(
     requires sorted { is_sorted text_cmp rows.now ≡ true }
     requires rising { IsStrictlySortedBy text_cmp keys.now }
     requires covers { Covers (spec.is_match wanted.now) rows.now keys.now }
-    ensures { IfOk result (λ gathered. Gathers start (filter (spec.is_match wanted.now) rows.now)
+    ensures { IfOk result (λ gathered. GathersPage start (filter (spec.is_match wanted.now) rows.now)
         gathered.matches gathered.names.items) }
 {
     let mut gathered = nothing(alloc);
@@ -172,7 +172,7 @@ fn gather_each(
 ) -> Result<Gathered, NoMemory>
     requires sorted { is_sorted text_cmp rows.now ≡ true }
     requires covers { Covers (spec.is_match wanted.now) rows.now keys.now.keys }
-    ensures { IfOk result (λ gathered. Gathers start (filter (spec.is_match wanted.now) rows.now)
+    ensures { IfOk result (λ gathered. GathersPage start (filter (spec.is_match wanted.now) rows.now)
         gathered.matches gathered.names.items) }
 {
     let mut gathered = nothing(alloc);

@@ -5,8 +5,8 @@ ghost use Rattle.copy_csv.specs.Rows.{AreChanges, AreRows};
 ghost use Rattle.copy_csv.specs.Sheets.{SheetRow};
 ghost use Rattle.copy_forms.specs.Patching.{patched};
 ghost use Rattle.name_search.specs.declared.faults.FindFault.{FindFault as Finding};
-ghost use Rattle.name_search.specs.NameTables.{IsRefusal, IsTableOf, Takes, number_in};
-ghost use Rattle.name_search.specs.Gathering.{Gathers};
+ghost use Rattle.name_search.specs.NameTables.{IsNameTable, IsTakeFault, MayTakeDelta, number_in};
+ghost use Rattle.name_search.specs.Gathering.{GathersPage};
 ghost use Rattle.name_search.specs.Searching as spec;
 ghost use Rattle.name_search.specs.Words.{words};
 
@@ -49,9 +49,9 @@ impl Model for Index {
       names = index.rows.items;
     } };
 
-    ghost use Rattle.name_search.specs.Walks.{IsIndexed};
+    ghost use Rattle.name_search.specs.Walks.{NamesAreIndexed};
 
-    ghost invariant = { λ index. IsIndexed index.rows.items index.postings };
+    ghost invariant = { λ index. NamesAreIndexed index.rows.items index.postings };
 }
 
 impl Index {
@@ -62,7 +62,7 @@ impl Index {
         steps: &mut Steps<L>,
     ) -> Result<Self, NoMemory>
         requires rows { AreRows DeclaredSheet.Lei copy.now.rows }
-        ensures rows { IfOk result (λ index. IsTableOf copy.now.rows index) }
+        ensures rows { IfOk result (λ index. IsNameTable copy.now.rows index) }
         ensures publication { IfOk result (λ index. index.publication ≡ number_in copy.now.head) }
         ensures width { IfOk result (λ index. index.wide ≡ copy.now.wide) }
         ensures steps { steps.new ≤ steps.old + length copy.now.rows }
@@ -89,12 +89,12 @@ impl Index {
     ) -> Result<(), TakeFault>
         requires changes { AreChanges DeclaredSheet.Lei delta.now.changes }
         requires form { is_some delta.now.head ≡ is_some self.old.publication }
-        ensures rows { OnOk result ((rows : Items SheetRow) → IsTableOf rows self.old
-            → IsTableOf (patched rows delta.now.changes) self.new) }
+        ensures rows { OnOk result ((rows : Items SheetRow) → IsNameTable rows self.old
+            → IsNameTable (patched rows delta.now.changes) self.new) }
         ensures publication { OnOk result (self.new.publication ≡ number_in delta.now.head) }
         ensures width { OnOk result (self.new.wide ≡ delta.now.wide) }
-        ensures takes { OnOk result (Takes self.old delta.now) }
-        ensures refusal { IfErr result (IsRefusal self.old delta.now) }
+        ensures takes { OnOk result (MayTakeDelta self.old delta.now) }
+        ensures refusal { IfErr result (IsTakeFault self.old delta.now) }
         ensures err { OnErr result (self.new ≡ self.old) }
         ensures steps { steps.new ≤ steps.old + length delta.now.changes }
         ensures steps_stay { steps.old ≤ steps.new }
@@ -118,8 +118,8 @@ impl Index {
     // Whether the index takes a delta, by its base and its width.
     fn check(&self, delta: &DeltaRead) -> Result<(), TakeFault>
         requires { is_some delta.now.head ≡ is_some self.now.publication }
-        ensures ok { OnOk result (Takes self.now delta.now) }
-        ensures refusal { IfErr result (IsRefusal self.now delta.now) }
+        ensures ok { OnOk result (MayTakeDelta self.now delta.now) }
+        ensures refusal { IfErr result (IsTakeFault self.now delta.now) }
     {
         if let (Some(publication), Some(head)) = (self.publication, delta.head) {
             if publication != head.from {
@@ -164,7 +164,8 @@ impl Index {
     // the rarest word are looked at.
     fn gather(&self, start: u64, wanted: &[Text]) -> Result<Gathered, NoMemory>
         requires { 1 ≤ length wanted.now }
-        ensures { IfOk result (λ gathered. Gathers start (filter (spec.is_match wanted.now) self.now.names)
+        ensures { IfOk result (λ gathered. GathersPage start
+            (filter (spec.is_match wanted.now) self.now.names)
             gathered.matches gathered.names.items) }
     {
         let word = wanted[self.postings.rarest(wanted)].as_str();

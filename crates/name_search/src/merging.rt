@@ -8,7 +8,7 @@ ghost use Rattle.copy_csv.specs.Rows.{AreChanges, AreRows, IsChangeOf};
 ghost use Rattle.copy_csv.specs.Sheets.{SheetRow};
 ghost use Rattle.copy_forms.specs.Patching.{patched};
 ghost use Rattle.name_search.specs.Keys.{text_cmp};
-ghost use Rattle.name_search.specs.NameTables.{Name, named, number_in};
+ghost use Rattle.name_search.specs.NameTables.{Name, key_and_name, number_in};
 ghost use Rattle.name_search.specs.Puts.{put_name, put_names};
 
 use crate::named_row::{NamedRow, text_of};
@@ -69,8 +69,8 @@ pub fn merge(
     requires sorted { is_sorted text_cmp rows.items ≡ true }
     requires puts { puts.items ≡ put_names changes.now }
     requires changes { AreChanges DeclaredSheet.Lei changes.now }
-    ensures { (copy : List SheetRow) → AreRows DeclaredSheet.Lei copy → rows.items ≡ map named copy
-        → out.new.items ≡ map named (patched copy changes.now) }
+    ensures { (copy : List SheetRow) → AreRows DeclaredSheet.Lei copy → rows.items ≡ map key_and_name copy
+        → out.new.items ≡ map key_and_name (patched copy changes.now) }
 {
     let mut rows = VecDeque::from_vec(rows);
     let mut puts = puts.into_iter();
@@ -104,7 +104,7 @@ fn move_rows(out: &mut Vec<NamedRow>, rows: &mut VecDeque<NamedRow>, count: usiz
     }
 }
 
-// Puts the first row after those that have gone, with the place of the row that may come instead of it.
+// Moves the first row to the end of those that have gone, with the index of the row that may replace it.
 fn take_first(gone: &mut Vec<(usize, NamedRow)>, place: usize, rows: &mut VecDeque<NamedRow>)
     requires some { 1 ≤ length rows.old.items }
     requires room { length gone.old.items + 1 ≤ vec_capacity gone.old }

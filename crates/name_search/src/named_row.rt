@@ -2,8 +2,8 @@
 ghost use Rattle.std.specs.Prelude.{◌≡◌, ◌+◌, ◌≤◌, IfOk};
 ghost use Rattle.lei_records.specs.Rows.{text_at};
 ghost use Rattle.register_words.specs.declared.sheets.Sheet.{Sheet as DeclaredSheet};
-ghost use Rattle.copy_csv.specs.Sheets.{IsRow};
-ghost use Rattle.name_search.specs.NameTables.{named};
+ghost use Rattle.copy_csv.specs.Sheets.{IsSheetRow};
+ghost use Rattle.name_search.specs.NameTables.{key_and_name};
 ghost use Rattle.name_search.specs.Searching as spec;
 ghost use Rattle.name_search.specs.Words.{words};
 
@@ -40,7 +40,7 @@ impl NamedRow {
     /// The key and the name of a row of `lei`. Its name is folded, which is one step.
     pub fn of<L: Ledger>(alloc: Global, row: &Row, steps: &mut Steps<L>) -> Result<Self, NoMemory>
         requires { row.now.sheet ≡ DeclaredSheet.Lei }
-        ensures value { IfOk result (λ made. made ≡ named row.now) }
+        ensures value { IfOk result (λ made. made ≡ key_and_name row.now) }
         ensures steps { steps.new ≡ steps.old + 1 }
     {
         let words = folded(alloc, text_of(row, 2), steps)?;
@@ -65,7 +65,7 @@ impl NamedRow {
 
     /// Whether the name has a word.
     pub fn has_word(&self, word: &str) -> bool
-        ensures { result ≡ spec.is_among (words self.now.1) word.now }
+        ensures { result ≡ spec.is_word_among (words self.now.1) word.now }
     {
         is_among(self.words.as_slice(), word)
     }
@@ -93,7 +93,7 @@ pub fn text_of(row: &Row, place: usize) -> &str
     requires first { 1 ≤ place }
     requires last { place ≤ 32 }
     ensures value { result.now ≡ text_at row.now.texts place }
-    ensures row { IsRow row.now }
+    ensures row { IsSheetRow row.now }
 {
     let is_record = row.sheet() == Sheet::Lei;
     prove!(is_record);
@@ -114,7 +114,7 @@ fn has_each(wanted: &[Text], words: &[Text]) -> bool
 
 // Whether a word is among these.
 fn is_among(words: &[Text], word: &str) -> bool
-    ensures { result ≡ spec.is_among words.now word.now }
+    ensures { result ≡ spec.is_word_among words.now word.now }
 {
     for other in words {
         if word == other.as_str() {

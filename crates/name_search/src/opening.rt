@@ -2,8 +2,8 @@
 ghost use Rattle.std.specs.Prelude.{◌≡◌, ◌+◌, ◌≤◌, true, length, map, IfOk};
 ghost use Rattle.std.specs.List.{All, list_all};
 ghost use Rattle.register_words.specs.declared.sheets.Sheet.{Sheet as DeclaredSheet};
-ghost use Rattle.copy_csv.specs.Rows.{IsRowOf};
-ghost use Rattle.name_search.specs.NameTables.{named};
+ghost use Rattle.copy_csv.specs.Rows.{IsRowOfSheet};
+ghost use Rattle.name_search.specs.NameTables.{key_and_name};
 ghost use Rattle.name_search.specs.Walks.{is_noted};
 
 use crate::named_row::NamedRow;
@@ -21,8 +21,8 @@ pub fn noted_rows<L: Ledger>(
     postings: &mut Postings,
     steps: &mut Steps<L>,
 ) -> Result<Vec<NamedRow>, NoMemory>
-    requires { All (IsRowOf DeclaredSheet.Lei) rows.now }
-    ensures names { IfOk result (λ made. made.items ≡ map named rows.now) }
+    requires { All (IsRowOfSheet DeclaredSheet.Lei) rows.now }
+    ensures names { IfOk result (λ made. made.items ≡ map key_and_name rows.now) }
     ensures noted { IfOk result (λ made. list_all (is_noted postings.new) made.items ≡ true) }
     ensures steps { steps.new ≤ steps.old + length rows.now }
     ensures steps_stay { steps.old ≤ steps.new }

@@ -44,8 +44,8 @@ pub fn row_near<'a>(rows: &'a [NamedRow], key: &str, place: usize) -> Option<&'a
     row_at(rows, key)
 }
 
-/// How many of some rows have lesser keys, and whether the next one has the key itself. It is found the sooner the fewer
-/// they are.
+/// The number of rows with lesser keys, and whether the next row has the key itself. The search takes as many steps as
+/// this number has binary digits, twice over.
 pub fn place_of(rows: &VecDeque<NamedRow>, key: &str) -> (usize, bool)
     requires { is_sorted text_cmp rows.now.items ≡ true }
     ensures within { result.0 ≤ length rows.now.items }
@@ -58,8 +58,8 @@ pub fn place_of(rows: &VecDeque<NamedRow>, key: &str) -> (usize, bool)
     place_between(rows, key, low, high)
 }
 
-// Two places, up to which keys are lesser and from which on they are greater. The distance between places that are
-// looked at doubles.
+// Two indexes: the keys before the first are lesser, and those from the second on are greater. The search looks at
+// indexes that double.
 fn bounds(rows: &VecDeque<NamedRow>, key: &str) -> (usize, usize)
     requires { is_sorted text_cmp rows.now.items ≡ true }
     ensures ordered { result.0 ≤ result.1 }
@@ -80,7 +80,7 @@ fn bounds(rows: &VecDeque<NamedRow>, key: &str) -> (usize, usize)
     (low, rows.len())
 }
 
-// The same as `place_of`, if up to one place keys are lesser, and from another one on they are greater.
+// As `place_of`, by bisection. The keys before `low` are lesser, and those from `high` on are greater.
 fn place_between(rows: &VecDeque<NamedRow>, key: &str, low: usize, high: usize) -> (usize, bool)
     requires sorted { is_sorted text_cmp rows.now.items ≡ true }
     requires ordered { low ≤ high }

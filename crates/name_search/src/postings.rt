@@ -6,8 +6,8 @@ ghost use Rattle.std.specs.List.Sorted.{IsStrictlySortedBy};
 ghost use Rattle.lei_code.specs.Texts.{Text as Bytes};
 ghost use Rattle.std.specs.FinMap.Entries.{is_sorted};
 ghost use Rattle.name_search.specs.Walks as spec;
-ghost use Rattle.name_search.specs.Keys.{is_key, text_cmp};
-ghost use Rattle.name_search.specs.Walks.{FirstStays, LaterStays, Stays, StaysFor, TakesFrom, is_noted, keys_in, keys_under, rising_in};
+ghost use Rattle.name_search.specs.Keys.{is_one_of_keys, text_cmp};
+ghost use Rattle.name_search.specs.Walks.{FirstStays, LaterStays, NotesStay, StaysFor, TakesFrom, is_noted, keys_in, keys_under, rising_in};
 
 use crate::key::Key;
 use crate::named_row::NamedRow;
@@ -55,7 +55,8 @@ impl Postings {
 
     /// The set of a word's keys, if there is one.
     pub fn later_keys(&self, word: &str) -> Option<&Keys>
-        ensures { keys_in (option_map (λ keys. keys.now) result) ≡ keys_in (get_by_text self.now.later word.now) }
+        ensures { keys_in (option_map (λ keys. keys.now) result)
+            ≡ keys_in (get_by_text self.now.later word.now) }
     {
         self.later.get(word)
     }
@@ -88,7 +89,7 @@ impl Postings {
 
     /// Notes the key of a row of a copy under each word of its name. These keys rise, and go to lists.
     pub fn note_of_copy(&mut self, row: &NamedRow) -> Result<(), NoMemory>
-        ensures stays { Stays self.old self.new }
+        ensures stays { NotesStay self.old self.new }
         ensures noted { OnOk result (is_noted self.new row.now ≡ true) }
     {
         for word in row.words() {
@@ -99,8 +100,8 @@ impl Postings {
 
     // Notes a key under a word: it goes to the word's list, or to its set if it comes before another one.
     fn note_first(&mut self, word: &str, key: &Key) -> Result<(), NoMemory>
-        ensures stays { Stays self.old self.new }
-        ensures noted { OnOk result (is_key key.now (keys_under self.new word.now) ≡ true) }
+        ensures stays { NotesStay self.old self.new }
+        ensures noted { OnOk result (is_one_of_keys key.now (keys_under self.new word.now) ≡ true) }
     {
         if push_first(self.alloc, &mut self.first, word, key)? {
             return Ok(());
@@ -110,7 +111,7 @@ impl Postings {
 
     /// Notes the keys of rows that come later.
     pub fn note_all(&mut self, rows: &[NamedRow]) -> Result<(), NoMemory>
-        ensures stays { Stays self.old self.new }
+        ensures stays { NotesStay self.old self.new }
         ensures noted { OnOk result (list_all (is_noted self.new) rows.now ≡ true) }
     {
         for row in rows {
@@ -121,7 +122,7 @@ impl Postings {
 
     // Notes the key of a row that a delta puts under each word of its name. It goes to sets.
     fn note_of_delta(&mut self, row: &NamedRow) -> Result<(), NoMemory>
-        ensures stays { Stays self.old self.new }
+        ensures stays { NotesStay self.old self.new }
         ensures noted { OnOk result (is_noted self.new row.now ≡ true) }
     {
         for word in row.words() {
@@ -132,8 +133,8 @@ impl Postings {
 
     // Notes a key under a word: it goes to the word's set.
     fn note_next(&mut self, word: &str, key: &Key) -> Result<(), NoMemory>
-        ensures stays { Stays self.old self.new }
-        ensures noted { OnOk result (is_key key.now (keys_under self.new word.now) ≡ true) }
+        ensures stays { NotesStay self.old self.new }
+        ensures noted { OnOk result (is_one_of_keys key.now (keys_under self.new word.now) ≡ true) }
     {
         note_later(self.alloc, &mut self.later, word, key)
     }
@@ -175,7 +176,7 @@ fn push_first(
 ) -> Result<bool, NoMemory>
     ensures stays { FirstStays first.old first.new }
     ensures noted { IfOk result
-        (λ is. is ≡ true → is_key key.now (rising_in (get_by_text first.new word.now)) ≡ true) }
+        (λ is. is ≡ true → is_one_of_keys key.now (rising_in (get_by_text first.new word.now)) ≡ true) }
 {
     match first.get_mut(word) {
         Some(keys) => keys.push(key),
@@ -193,7 +194,7 @@ fn push_alone(
     requires { get_by_text first.old word.now ≡ None }
     ensures stays { FirstStays first.old first.new }
     ensures noted { IfOk result
-        (λ is. is ≡ true → is_key key.now (rising_in (get_by_text first.new word.now)) ≡ true) }
+        (λ is. is ≡ true → is_one_of_keys key.now (rising_in (get_by_text first.new word.now)) ≡ true) }
 {
     let mut keys = RisingKeys::new(alloc);
     let is_there = keys.push(key)?;
@@ -210,7 +211,7 @@ fn note_later(
     key: &Key,
 ) -> Result<(), NoMemory>
     ensures stays { LaterStays later.old later.new }
-    ensures noted { OnOk result (is_key key.now (keys_in (get_by_text later.new word.now)) ≡ true) }
+    ensures noted { OnOk result (is_one_of_keys key.now (keys_in (get_by_text later.new word.now)) ≡ true) }
 {
     match later.get_mut(word) {
         Some(keys) => note_key(keys, key),
@@ -227,7 +228,7 @@ fn note_alone(
 ) -> Result<(), NoMemory>
     requires { get_by_text later.old word.now ≡ None }
     ensures stays { LaterStays later.old later.new }
-    ensures noted { OnOk result (is_key key.now (keys_in (get_by_text later.new word.now)) ≡ true) }
+    ensures noted { OnOk result (is_one_of_keys key.now (keys_in (get_by_text later.new word.now)) ≡ true) }
 {
     let mut keys = BTreeSet::new(alloc);
     note_key(&mut keys, key)?;
@@ -257,8 +258,9 @@ fn has_word(row: Option<&NamedRow>, word: &str) -> bool
 
 /// Adds a key to others.
 pub fn note_key(keys: &mut Keys, key: &Key) -> Result<(), NoMemory>
-    ensures stay { (k : Bytes) → is_key k keys.old.keys ≡ true → is_key k keys.new.keys ≡ true }
-    ensures noted { OnOk result (is_key key.now keys.new.keys ≡ true) }
+    ensures stay { (k : Bytes) → is_one_of_keys k keys.old.keys ≡ true
+        → is_one_of_keys k keys.new.keys ≡ true }
+    ensures noted { OnOk result (is_one_of_keys key.now keys.new.keys ≡ true) }
 {
     keys.insert(key.share()?)?;
     Ok(())

@@ -5,7 +5,7 @@ ghost use Rattle.std.specs.List.Sorted.{IsStrictlySortedBy};
 ghost use Rattle.std.specs.Ordering.{nat_cmp};
 ghost use Rattle.std.specs.declared.cmp.Ordering.{Ordering as Order};
 ghost use Rattle.lei_code.specs.Texts.{Text as Bytes};
-ghost use Rattle.name_search.specs.Keys.{is_key};
+ghost use Rattle.name_search.specs.Keys.{is_one_of_keys};
 
 use crate::key::Key;
 use lei_outside::NoMemory;
@@ -53,8 +53,8 @@ impl RisingKeys {
     /// Appends a key if it comes after the last one. Returns `false` if it comes before the last one, and otherwise
     /// `true`: then the list has the key.
     pub fn push(&mut self, key: &Key) -> Result<bool, NoMemory>
-        ensures stay { (k : Bytes) → is_key k self.old ≡ true → is_key k self.new ≡ true }
-        ensures is_there { IfOk result (λ is. is ≡ true → is_key key.now self.new ≡ true) }
+        ensures stay { (k : Bytes) → is_one_of_keys k self.old ≡ true → is_one_of_keys k self.new ≡ true }
+        ensures is_there { IfOk result (λ is. is ≡ true → is_one_of_keys key.now self.new ≡ true) }
     {
         match order(self.keys.as_slice(), key) {
             Ordering::Less => return Ok(false),
@@ -69,8 +69,9 @@ impl RisingKeys {
 // How a key compares with the last of rising keys. If there are none, it comes after them.
 fn order(keys: &[Key], key: &Key) -> Ordering
     requires { IsStrictlySortedBy (slice_cmp nat_cmp) keys.now }
-    ensures equal { result ≡ Order.Equal → is_key key.now keys.now ≡ true }
-    ensures greater { result ≡ Order.Greater → IsStrictlySortedBy (slice_cmp nat_cmp) (keys.now ++ key.now ∷ []) }
+    ensures equal { result ≡ Order.Equal → is_one_of_keys key.now keys.now ≡ true }
+    ensures greater { result ≡ Order.Greater → IsStrictlySortedBy (slice_cmp nat_cmp) (keys.now
+        ++ key.now ∷ []) }
 {
     match keys.last() {
         Some(last) => key.cmp(last),

@@ -43,7 +43,7 @@ fn folded_text(alloc: Global, text: &str) -> Result<String, NoMemory>
 
 // The words of a text that is already folded.
 fn cut(alloc: Global, text: &str) -> Result<List<Text>, NoMemory>
-    ensures { IfOk result (λ found. found ≡ filter spec.is_word (spec.pieces (chars text.now))) }
+    ensures { IfOk result (λ found. found ≡ filter spec.is_word (spec.word_pieces (chars text.now))) }
 {
     let mut words = Vec::new(alloc);
     let mut word = String::new(alloc);

@@ -20,8 +20,8 @@ abbrev pub with_option : Text → App → App
 with_option name app = with_rule app (record (new_rule name) { long = Some name; action = Some Set })
 
 -- the command with one more text, which comes after the previous ones
-abbrev pub with_text : Text → App → App
-with_text name app = with_rule app (record (new_rule name) { action = Some Set })
+abbrev pub app_with_text : Text → App → App
+app_with_text name app = with_rule app (record (new_rule name) { action = Some Set })
 
 -- `lines [--store PATH]`
 abbrev pub lines_app : App
@@ -34,12 +34,12 @@ serve_app = with_option (codes "store") (with_option (codes "connections")
 
 -- `apply TABLE FORM COPY DELTA`
 abbrev pub apply_app : App
-apply_app = with_text (codes "DELTA") (with_text (codes "COPY")
-    (with_text (codes "FORM") (with_text (codes "TABLE") (plain (codes "apply")))))
+apply_app = app_with_text (codes "DELTA") (app_with_text (codes "COPY")
+    (app_with_text (codes "FORM") (app_with_text (codes "TABLE") (plain (codes "apply")))))
 
 -- `search FORM COPY`
 abbrev pub search_app : App
-search_app = with_text (codes "COPY") (with_text (codes "FORM") (plain (codes "search")))
+search_app = app_with_text (codes "COPY") (app_with_text (codes "FORM") (plain (codes "search")))
 
 -- `mirror`
 abbrev pub mirror_app : App
@@ -47,20 +47,20 @@ mirror_app = plain (codes "mirror")
 
 -- `group WHO FORM LEICOPY RRCOPY`
 abbrev pub group_app : App
-group_app = with_text (codes "RRCOPY") (with_text (codes "LEICOPY")
-    (with_text (codes "FORM") (with_text (codes "WHO") (plain (codes "group")))))
+group_app = app_with_text (codes "RRCOPY") (app_with_text (codes "LEICOPY")
+    (app_with_text (codes "FORM") (app_with_text (codes "WHO") (plain (codes "group")))))
 
 -- `check CODE`
 abbrev pub check_app : App
-check_app = with_text (codes "CODE") (plain (codes "check"))
+check_app = app_with_text (codes "CODE") (plain (codes "check"))
 
 -- `digits TEXT`
 abbrev pub digits_app : App
-digits_app = with_text (codes "TEXT") (plain (codes "digits"))
+digits_app = app_with_text (codes "TEXT") (plain (codes "digits"))
 
 -- `demo N`
 abbrev pub demo_app : App
-demo_app = with_text (codes "N") (plain (codes "demo"))
+demo_app = app_with_text (codes "N") (plain (codes "demo"))
 
 -- the texts, unless there is a fault
 abbrev pub unless_fault : Kinds → List Row → Option (List Row)

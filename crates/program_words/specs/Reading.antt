@@ -9,5 +9,5 @@ Refuses found faults.Usage = found ≡ None
 Refuses found faults.NoMemory = Unit {0}
 
 -- The possible results for words with this finding, by the meaning that a result has.
-abbrev pub Finds : {A R : Type 0} → (R → A) → Option A → Result R WordsFault → Type 0
-Finds reading found result = MatchResult result (λ value. found ≡ Some (reading value)) (Refuses found)
+abbrev pub FindsWords : {A R : Type 0} → (R → A) → Option A → Result R WordsFault → Type 0
+FindsWords reading found result = MatchResult result (λ value. found ≡ Some (reading value)) (Refuses found)

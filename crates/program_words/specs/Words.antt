@@ -4,7 +4,7 @@ use Rattle.std.specs.Str.{bytes_eq}
 use Rattle.register_words.specs.declared.sheets.Form.{Form}
 use Rattle.register_words.specs.declared.sheets.Sheet.{Sheet}
 use Rattle.lei_code.specs.Texts.{Text}
-use Rattle.register_words.specs.Words.{form_of, number_within, sheet_of}
+use Rattle.register_words.specs.Words.{form_named, number_within, sheet_named}
 use Rattle.clap.specs.Walk.{Row, first_of}
 use Rattle.program_words.specs.Commands.{apply_app, check_app, demo_app, digits_app, group_app, lines_app, mirror_app, read_by, search_app, serve_app}
 use Rattle.program_words.specs.declared.runs.Command.{Command}
@@ -60,9 +60,9 @@ abbrev pub number_under : Text → ℕ → ℕ → List Row → Option ℕ
 number_under name low high rows = option_and_then (number_within low high) (first_of name rows)
 
 -- how many connections each worker takes: 4,294,967,295 by default
-abbrev pub connections_told : Option Text → Option ℕ
-connections_told None = Some 4_294_967_295
-connections_told (Some text) = number_within 1 4_294_967_295 text
+abbrev pub connections_given : Option Text → Option ℕ
+connections_given None = Some 4_294_967_295
+connections_given (Some text) = number_within 1 4_294_967_295 text
 
 -- a server by its numbers, or nothing if one of them can't be read
 abbrev pub serve_by : Option ℕ → Option ℕ → Option ℕ → Option Text → Option Meant
@@ -79,7 +79,7 @@ serve_by None workers connections store = None
 -- A server has a port from 0 to 65,535, and from 1 to 64 workers.
 abbrev pub serve_meant : List Row → Option Meant
 serve_meant rows = serve_by (number_under (codes "port") 0 65_535 rows) (number_under (codes "workers") 1 64 rows)
-    (connections_told (first_of (codes "connections") rows)) (first_of (codes "store") rows)
+    (connections_given (first_of (codes "connections") rows)) (first_of (codes "store") rows)
 
 -- a copy is patched by a sheet, a form and two files, or nothing if one of them can't be read
 abbrev pub apply_by : Option Sheet → Option Form → Option Text → Option Text → Option Meant
@@ -92,8 +92,8 @@ apply_by None form copy delta = None
 
 -- The file of the copy is the first, and that of the delta the second. A path may be any text, including the empty one.
 abbrev pub apply_meant : List Row → Option Meant
-apply_meant rows = apply_by (option_and_then sheet_of (first_of (codes "TABLE") rows))
-    (option_and_then form_of (first_of (codes "FORM") rows))
+apply_meant rows = apply_by (option_and_then sheet_named (first_of (codes "TABLE") rows))
+    (option_and_then form_named (first_of (codes "FORM") rows))
     (first_of (codes "COPY") rows) (first_of (codes "DELTA") rows)
 
 -- names of a copy are searched by a form and a file, or nothing if one of them can't be read
@@ -104,7 +104,7 @@ search_by None copy = None
 
 -- The file of the copy is the second, since the first input has the queries.
 abbrev pub search_meant : List Row → Option Meant
-search_meant rows = search_by (option_and_then form_of (first_of (codes "FORM") rows)) (first_of (codes "COPY") rows)
+search_meant rows = search_by (option_and_then form_named (first_of (codes "FORM") rows)) (first_of (codes "COPY") rows)
 
 -- A mirror is requested by its name alone.
 abbrev pub mirror_meant : List Row → Option Meant
@@ -123,7 +123,7 @@ group_by None form lei rr = None
 -- any text, including the empty one.
 abbrev pub group_meant : List Row → Option Meant
 group_meant rows = group_by (first_of (codes "WHO") rows)
-    (option_and_then form_of (first_of (codes "FORM") rows))
+    (option_and_then form_named (first_of (codes "FORM") rows))
     (first_of (codes "LEICOPY") rows) (first_of (codes "RRCOPY") rows)
 
 -- Any text is checked, including the empty one.
@@ -155,9 +155,9 @@ meant_by name words =
     else None))))))))
 
 -- What the words after the program's name ask for, or nothing if they aren't a command.
-abbrev pub meant : List Text → Option Meant
-meant [] = None
-meant (name ∷ words) = meant_by name words
+abbrev pub meant_run : List Text → Option Meant
+meant_run [] = None
+meant_run (name ∷ words) = meant_by name words
 
 -- ---- what is read from them
 
@@ -174,8 +174,8 @@ invocation_of (commands.Digits text) = to_make_digits text.now
 invocation_of (commands.Demo records) = to_make_up records
 
 -- the meaning that a run was read from
-abbrev pub meaning : WantedRun → Meant
-meaning run = record {
+abbrev pub run_meaning : WantedRun → Meant
+run_meaning run = record {
   invocation = invocation_of run.command;
   store = option_map (λ path. path.now) run.store;
   first = option_map (λ path. path.now) run.first;

@@ -4,8 +4,8 @@ ghost use Rattle.clap.specs.Simple.{app_of};
 ghost use Rattle.clap.specs.Faults.{is_simple_and_free};
 ghost use Rattle.clap.specs.Matches.{found_of};
 ghost use Rattle.clap.specs.Walk.{rows_of};
-ghost use Rattle.program_words.specs.Commands.{apply_app, check_app, demo_app, digits_app, group_app, lines_app, mirror_app, plain, read_by, search_app, serve_app, with_option, with_text};
-ghost use Rattle.program_words.specs.Reading.{Finds};
+ghost use Rattle.program_words.specs.Commands.{app_with_text, apply_app, check_app, demo_app, digits_app, group_app, lines_app, mirror_app, plain, read_by, search_app, serve_app, with_option};
+ghost use Rattle.program_words.specs.Reading.{FindsWords};
 
 use crate::fault::WordsFault;
 use clap::error::ErrorKind;
@@ -41,7 +41,7 @@ fn with_text<'a>(
     command: Command<'a>,
     name: &'a str,
 ) -> Result<Command<'a>, NoMemory>
-    ensures { IfOk result (λ made. app_of made ≡ with_text name.now (app_of command.entry)) }
+    ensures { IfOk result (λ made. app_of made ≡ app_with_text name.now (app_of command.entry)) }
 {
     let text = Arg::new(alloc, name).action(ArgAction::Set);
     let command = command.arg(text)?;
@@ -115,7 +115,7 @@ pub fn demo_command<'a>(alloc: Global) -> Result<Command<'a>, NoMemory>
 /// What a command reads from the words.
 pub fn read<'a>(command: Command<'a>, words: &'a [String]) -> Result<ArgMatches<'a>, WordsFault>
     requires simple { is_simple_and_free (app_of command) ≡ true }
-    ensures { Finds (λ matches. rows_of (found_of matches))
+    ensures { FindsWords (λ matches. rows_of (found_of matches))
         (read_by (app_of command.entry) (map string_bytes words.now)) result }
 {
     match command.try_get_matches_from(words) {

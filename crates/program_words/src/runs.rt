@@ -3,8 +3,8 @@ ghost use Rattle.std.specs.Prelude.{◌≡◌, ◌≤◌, Some, IfOk, IfSome, co
 ghost use Rattle.clap.specs.Matches.{found_of};
 ghost use Rattle.clap.specs.Walk.{first_of, rows_of};
 ghost use Rattle.program_words.specs.Commands.{apply_app, check_app, demo_app, digits_app, group_app, lines_app, mirror_app, read_by, search_app, serve_app};
-ghost use Rattle.program_words.specs.Reading.{Finds};
-ghost use Rattle.program_words.specs.Words.{AreInRange, apply_meant, check_meant, connections_told, demo_meant, digits_meant, group_meant, invocation_of, lines_meant, meaning, meant, mirror_meant, number_under, only, search_meant, serve_meant};
+ghost use Rattle.program_words.specs.Reading.{FindsWords};
+ghost use Rattle.program_words.specs.Words.{AreInRange, apply_meant, check_meant, connections_given, demo_meant, digits_meant, group_meant, invocation_of, lines_meant, meant_run, mirror_meant, number_under, only, run_meaning, search_meant, serve_meant};
 
 use crate::commands::{
     apply_command, check_command, demo_command, digits_command, group_command, lines_command,
@@ -71,7 +71,7 @@ pub struct WantedRun<'a> {
 /// What these words ask for: the program's words without its name. `clap` reads those after the first, as the options
 /// and texts of the command that the first one names.
 pub fn wanted<'a>(alloc: Global, words: &'a [String]) -> Result<WantedRun<'a>, WordsFault>
-    ensures meant { Finds meaning (meant (map string_bytes words.now)) result }
+    ensures meant { FindsWords run_meaning (meant_run (map string_bytes words.now)) result }
     ensures range { IfOk result AreInRange }
 {
     let Some((name, words)) = words.split_first() else {
@@ -92,7 +92,7 @@ pub fn wanted<'a>(alloc: Global, words: &'a [String]) -> Result<WantedRun<'a>, W
 }
 
 fn wanted_lines<'a>(alloc: Global, words: &'a [String]) -> Result<WantedRun<'a>, WordsFault>
-    ensures meant { Finds meaning
+    ensures meant { FindsWords run_meaning
         (option_and_then lines_meant (read_by lines_app (map string_bytes words.now))) result }
     ensures range { IfOk result AreInRange }
 {
@@ -101,7 +101,7 @@ fn wanted_lines<'a>(alloc: Global, words: &'a [String]) -> Result<WantedRun<'a>,
 }
 
 fn wanted_serve<'a>(alloc: Global, words: &'a [String]) -> Result<WantedRun<'a>, WordsFault>
-    ensures meant { Finds meaning
+    ensures meant { FindsWords run_meaning
         (option_and_then serve_meant (read_by serve_app (map string_bytes words.now))) result }
     ensures range { IfOk result AreInRange }
 {
@@ -110,7 +110,7 @@ fn wanted_serve<'a>(alloc: Global, words: &'a [String]) -> Result<WantedRun<'a>,
 }
 
 fn wanted_apply<'a>(alloc: Global, words: &'a [String]) -> Result<WantedRun<'a>, WordsFault>
-    ensures meant { Finds meaning
+    ensures meant { FindsWords run_meaning
         (option_and_then apply_meant (read_by apply_app (map string_bytes words.now))) result }
     ensures range { IfOk result AreInRange }
 {
@@ -119,7 +119,7 @@ fn wanted_apply<'a>(alloc: Global, words: &'a [String]) -> Result<WantedRun<'a>,
 }
 
 fn wanted_search<'a>(alloc: Global, words: &'a [String]) -> Result<WantedRun<'a>, WordsFault>
-    ensures meant { Finds meaning
+    ensures meant { FindsWords run_meaning
         (option_and_then search_meant (read_by search_app (map string_bytes words.now))) result }
     ensures range { IfOk result AreInRange }
 {
@@ -128,7 +128,7 @@ fn wanted_search<'a>(alloc: Global, words: &'a [String]) -> Result<WantedRun<'a>
 }
 
 fn wanted_mirror<'a>(alloc: Global, words: &'a [String]) -> Result<WantedRun<'a>, WordsFault>
-    ensures meant { Finds meaning
+    ensures meant { FindsWords run_meaning
         (option_and_then mirror_meant (read_by mirror_app (map string_bytes words.now))) result }
     ensures range { IfOk result AreInRange }
 {
@@ -137,7 +137,7 @@ fn wanted_mirror<'a>(alloc: Global, words: &'a [String]) -> Result<WantedRun<'a>
 }
 
 fn wanted_group<'a>(alloc: Global, words: &'a [String]) -> Result<WantedRun<'a>, WordsFault>
-    ensures meant { Finds meaning
+    ensures meant { FindsWords run_meaning
         (option_and_then group_meant (read_by group_app (map string_bytes words.now))) result }
     ensures range { IfOk result AreInRange }
 {
@@ -146,7 +146,7 @@ fn wanted_group<'a>(alloc: Global, words: &'a [String]) -> Result<WantedRun<'a>,
 }
 
 fn wanted_check<'a>(alloc: Global, words: &'a [String]) -> Result<WantedRun<'a>, WordsFault>
-    ensures meant { Finds meaning
+    ensures meant { FindsWords run_meaning
         (option_and_then check_meant (read_by check_app (map string_bytes words.now))) result }
     ensures range { IfOk result AreInRange }
 {
@@ -155,7 +155,7 @@ fn wanted_check<'a>(alloc: Global, words: &'a [String]) -> Result<WantedRun<'a>,
 }
 
 fn wanted_digits<'a>(alloc: Global, words: &'a [String]) -> Result<WantedRun<'a>, WordsFault>
-    ensures meant { Finds meaning
+    ensures meant { FindsWords run_meaning
         (option_and_then digits_meant (read_by digits_app (map string_bytes words.now))) result }
     ensures range { IfOk result AreInRange }
 {
@@ -164,7 +164,7 @@ fn wanted_digits<'a>(alloc: Global, words: &'a [String]) -> Result<WantedRun<'a>
 }
 
 fn wanted_demo<'a>(alloc: Global, words: &'a [String]) -> Result<WantedRun<'a>, WordsFault>
-    ensures meant { Finds meaning
+    ensures meant { FindsWords run_meaning
         (option_and_then demo_meant (read_by demo_app (map string_bytes words.now))) result }
     ensures range { IfOk result AreInRange }
 {
@@ -174,7 +174,7 @@ fn wanted_demo<'a>(alloc: Global, words: &'a [String]) -> Result<WantedRun<'a>, 
 
 // A command without any further argument.
 fn only<'a>(command: Command<'a>) -> WantedRun<'a>
-    ensures meant { meaning result ≡ only (invocation_of command.entry) }
+    ensures meant { run_meaning result ≡ only (invocation_of command.entry) }
     ensures command { result.command ≡ command.entry }
 {
     WantedRun {
@@ -207,7 +207,7 @@ fn number(matches: &ArgMatches<'_>, name: &str, low: u32, high: u32) -> Option<u
 }
 
 fn connections(matches: &ArgMatches<'_>) -> Option<u32>
-    ensures { result ≡ connections_told (first_of (codes "connections") (rows_of (found_of matches.now))) }
+    ensures { result ≡ connections_given (first_of (codes "connections") (rows_of (found_of matches.now))) }
 {
     match text(matches, "connections") {
         Some(text) => number_within(text.as_bytes(), 1, MOST_CONNECTIONS),
@@ -216,7 +216,7 @@ fn connections(matches: &ArgMatches<'_>) -> Option<u32>
 }
 
 fn lines_of<'a>(matches: &ArgMatches<'a>) -> WantedRun<'a>
-    ensures meant { lines_meant (rows_of (found_of matches.now)) ≡ Some (meaning result) }
+    ensures meant { lines_meant (rows_of (found_of matches.now)) ≡ Some (run_meaning result) }
     ensures range { AreInRange result }
 {
     let store = text(matches, "store");
@@ -227,7 +227,7 @@ fn lines_of<'a>(matches: &ArgMatches<'a>) -> WantedRun<'a>
 }
 
 fn serve_of<'a>(matches: &ArgMatches<'a>) -> Option<WantedRun<'a>>
-    ensures meant { option_map meaning result ≡ serve_meant (rows_of (found_of matches.now)) }
+    ensures meant { option_map run_meaning result ≡ serve_meant (rows_of (found_of matches.now)) }
     ensures range { IfSome result AreInRange }
 {
     let port = number(matches, "port", 0, MOST_PORT)?;
@@ -244,7 +244,7 @@ fn serve_of<'a>(matches: &ArgMatches<'a>) -> Option<WantedRun<'a>>
 }
 
 fn apply_of<'a>(matches: &ArgMatches<'a>) -> Option<WantedRun<'a>>
-    ensures meant { option_map meaning result ≡ apply_meant (rows_of (found_of matches.now)) }
+    ensures meant { option_map run_meaning result ≡ apply_meant (rows_of (found_of matches.now)) }
     ensures range { IfSome result AreInRange }
 {
     let sheet = sheet_of(text(matches, "TABLE")?.as_bytes())?;
@@ -259,7 +259,7 @@ fn apply_of<'a>(matches: &ArgMatches<'a>) -> Option<WantedRun<'a>>
 }
 
 fn search_of<'a>(matches: &ArgMatches<'a>) -> Option<WantedRun<'a>>
-    ensures meant { option_map meaning result ≡ search_meant (rows_of (found_of matches.now)) }
+    ensures meant { option_map run_meaning result ≡ search_meant (rows_of (found_of matches.now)) }
     ensures range { IfSome result AreInRange }
 {
     let form = form_of(text(matches, "FORM")?.as_bytes())?;
@@ -271,7 +271,7 @@ fn search_of<'a>(matches: &ArgMatches<'a>) -> Option<WantedRun<'a>>
 }
 
 fn group_of<'a>(matches: &ArgMatches<'a>) -> Option<WantedRun<'a>>
-    ensures meant { option_map meaning result ≡ group_meant (rows_of (found_of matches.now)) }
+    ensures meant { option_map run_meaning result ≡ group_meant (rows_of (found_of matches.now)) }
     ensures range { IfSome result AreInRange }
 {
     let who = text(matches, "WHO")?;
@@ -286,7 +286,7 @@ fn group_of<'a>(matches: &ArgMatches<'a>) -> Option<WantedRun<'a>>
 }
 
 fn check_of<'a>(matches: &ArgMatches<'a>) -> Option<WantedRun<'a>>
-    ensures meant { option_map meaning result ≡ check_meant (rows_of (found_of matches.now)) }
+    ensures meant { option_map run_meaning result ≡ check_meant (rows_of (found_of matches.now)) }
     ensures range { IfSome result AreInRange }
 {
     let code = text(matches, "CODE")?;
@@ -294,7 +294,7 @@ fn check_of<'a>(matches: &ArgMatches<'a>) -> Option<WantedRun<'a>>
 }
 
 fn digits_of<'a>(matches: &ArgMatches<'a>) -> Option<WantedRun<'a>>
-    ensures meant { option_map meaning result ≡ digits_meant (rows_of (found_of matches.now)) }
+    ensures meant { option_map run_meaning result ≡ digits_meant (rows_of (found_of matches.now)) }
     ensures range { IfSome result AreInRange }
 {
     let text = text(matches, "TEXT")?;
@@ -302,7 +302,7 @@ fn digits_of<'a>(matches: &ArgMatches<'a>) -> Option<WantedRun<'a>>
 }
 
 fn demo_of<'a>(matches: &ArgMatches<'a>) -> Option<WantedRun<'a>>
-    ensures meant { option_map meaning result ≡ demo_meant (rows_of (found_of matches.now)) }
+    ensures meant { option_map run_meaning result ≡ demo_meant (rows_of (found_of matches.now)) }
     ensures range { IfSome result AreInRange }
 {
     let records = number(matches, "N", 2, MOST_RECORDS)?;

@@ -5,11 +5,11 @@ use Rattle.std.proofs.lemmas.List.{length-take-le}
 use Rattle.std.proofs.lemmas.List.Elements.{All-cons}
 use Rattle.request_loop.specs.Frames.{AreMeant, IsMeant, ReadsMore, ReadsWhole}
 use Rattle.request_loop.specs.declared.frames.Want.{Want}
-use Rattle.line_reading.specs.Lines.{Ends, HasNoEnd, Line, line_of}
+use Rattle.line_reading.specs.Lines.{HasNoEnd, IsCutAtEnd, Line, line_of}
 use Rattle.line_reading.specs.declared.framing.NoEnd.{NoEnd}
 use Rattle.line_reading.proofs.LineLemmas.{HasNoEnd-append, HasNoEnd-nil, length-line_of}
-use Rattle.query_reading.specs.Meanings.{IsMeaning, IsWhole, asked_at_end, asked_with, packet_size, query_limit, said}
-use Rattle.query_reading.specs.QueryFrames.{EndsAsked, EndsInput, HoldsQuery, IsReadAs, TakesMemory, query_rules, wanted}
+use Rattle.query_reading.specs.Meanings.{IsMeaning, IsWholeQuery, asked_at_end, asked_with, line_says, packet_size, query_limit}
+use Rattle.query_reading.specs.QueryFrames.{EndsAsked, EndsInput, HoldsQuery, IsReadAs, TakesMemory, query_rules, query_want}
 use Rattle.query_reading.specs.declared.asked.QueryAsked.{QueryAsked}
 use Rattle.query_reading.specs.declared.grammar.LineMeaning.{LineMeaning}
 use Rattle.query_reading.specs.declared.refusal.QueryRefusal.{QueryRefusal}
@@ -22,25 +22,25 @@ Grammars Q H = Line → LineMeaning Q H
 -- ---- what is meant
 
 meant_same : {Q H : Type 0} (says : Grammars Q H) (meant : Option (QueryAsked Q H))
-    → AreMeant (query_rules says) (option_map wanted meant) (option_map wanted meant)
+    → AreMeant (query_rules says) (option_map query_want meant) (option_map query_want meant)
 meant_same says None = tt
 meant_same says (Some asked) = record { asked = inl refl; ends = refl; text = λ reply. refl }
 
 memory_meant : {Q H : Type 0} (says : Grammars Q H) (asked : QueryAsked Q H) → TakesMemory asked
-    → IsMeant (query_rules says) (wanted asked) (wanted (QueryAsked.Refuse NoMemory))
+    → IsMeant (query_rules says) (query_want asked) (query_want (QueryAsked.Refuse NoMemory))
 memory_meant says asked takes = record { asked = inr (takes, refl); ends = refl; text = λ reply. refl }
 
 are_meant : {Q H : Type 0} (says : Grammars Q H) (meant read : Option (QueryAsked Q H)) → IsReadAs meant read
-    → AreMeant (query_rules says) (option_map wanted meant) (option_map wanted read)
+    → AreMeant (query_rules says) (option_map query_want meant) (option_map query_want read)
 are_meant {Q} {H} says meant read (inl same) =
-    let M : Option (QueryAsked Q H) → Type 0 = λ r. AreMeant (query_rules says) (option_map wanted meant)
-    (option_map wanted r) in
+    let M : Option (QueryAsked Q H) → Type 0 = λ r. AreMeant (query_rules says) (option_map query_want meant)
+    (option_map query_want r) in
     subst M (sym same) (meant_same says meant)
 are_meant {Q} {H} says meant read (inr (asked, is, takes, refused)) =
-    let M : Option (QueryAsked Q H) → Type 0 = λ m. AreMeant (query_rules says) (option_map wanted m)
-    (Some (wanted (QueryAsked.Refuse NoMemory))) in
-    let R : Option (QueryAsked Q H) → Type 0 = λ r. AreMeant (query_rules says) (option_map wanted meant)
-    (option_map wanted r) in
+    let M : Option (QueryAsked Q H) → Type 0 = λ m. AreMeant (query_rules says) (option_map query_want m)
+    (Some (query_want (QueryAsked.Refuse NoMemory))) in
+    let R : Option (QueryAsked Q H) → Type 0 = λ r. AreMeant (query_rules says) (option_map query_want meant)
+    (option_map query_want r) in
     subst R (sym refused) (subst M (sym is) (memory_meant says asked takes))
 
 -- ---- a frame is complete
@@ -51,14 +51,14 @@ holds_rest says rest = (refl, omega arith, HasNoEnd-nil)
 
 pub reads_frame : {Q H : Type 0} (says : Grammars Q H) (bytes held part packet : List ℕ) (count : ℕ)
     (meant read : Option (QueryAsked Q H)) → count ≤ length held → 0 < count
-    → Ends bytes part (packet ++ drop count held) → length packet ≡ packet_size (said says (line_of part))
-    → asked_with (said says (line_of part)) packet ≡ meant → IsReadAs meant read
-    → ReadsWhole (query_rules says) (HoldsQuery says (FrameStage.Line 0)) bytes held [] (option_map wanted read) count
+    → IsCutAtEnd bytes part (packet ++ drop count held) → length packet ≡ packet_size (line_says says (line_of part))
+    → asked_with (line_says says (line_of part)) packet ≡ meant → IsReadAs meant read
+    → ReadsWhole (query_rules says) (HoldsQuery says (FrameStage.Line 0)) bytes held [] (option_map query_want read) count
 reads_frame says bytes held part packet count meant read within some ends size is reads = record {
   within = within;
   some = λ _. some;
-  meant = option_map wanted meant;
-  whole = record { part = part; packet = packet; ends = ends; size = size; frame_is = ap (option_map wanted) (sym is) };
+  meant = option_map query_want meant;
+  whole = record { part = part; packet = packet; ends = ends; size = size; frame_is = ap (option_map query_want) (sym is) };
   are_meant = are_meant says meant read reads;
   holds = holds_rest says (drop count held);
   waits = refl;
@@ -66,7 +66,7 @@ reads_frame says bytes held part packet count meant read within some ends size i
 
 -- ---- what lines say
 
-pub says_nothing : {Q H : Type 0} (says : Grammars Q H) (line : Line) → length line ≡ 0 → said says line ≡ None
+pub says_nothing : {Q H : Type 0} (says : Grammars Q H) (line : Line) → length line ≡ 0 → line_says says line ≡ None
 says_nothing {Q} {H} says line none =
     let is : eqb (length line) 0 ≡ true = grind (arith, nat_tests) in
     let other : Option (LineMeaning Q H) = cond (ltb query_limit (length line)) (Some (LineMeaning.Refused TooLong))
@@ -74,7 +74,7 @@ says_nothing {Q} {H} says line none =
     ap (λ (b : Bool). cond b None other) is
 
 says_some : {Q H : Type 0} (says : Grammars Q H) (line : Line) → 0 < length line
-    → said says line ≡ cond (ltb query_limit (length line)) (Some (LineMeaning.Refused TooLong)) (Some (says line))
+    → line_says says line ≡ cond (ltb query_limit (length line)) (Some (LineMeaning.Refused TooLong)) (Some (says line))
 says_some {Q} {H} says line some =
     let is : eqb (length line) 0 ≡ false = grind (arith, nat_tests) in
     let other : Option (LineMeaning Q H) = cond (ltb query_limit (length line)) (Some (LineMeaning.Refused TooLong))
@@ -82,14 +82,14 @@ says_some {Q} {H} says line some =
     ap (λ (b : Bool). cond b None other) is
 
 pub says_too_long : {Q H : Type 0} (says : Grammars Q H) (line : Line) → query_limit < length line
-    → said says line ≡ Some (LineMeaning.Refused TooLong)
+    → line_says says line ≡ Some (LineMeaning.Refused TooLong)
 says_too_long {Q} {H} says line long =
     let is : ltb query_limit (length line) ≡ true = grind (arith, nat_tests) in
     let refused : Option (LineMeaning Q H) = Some (LineMeaning.Refused TooLong) in
     says_some says line (omega (arith, long)) ∙ ap (λ (b : Bool). cond b refused (Some (says line))) is
 
 pub says_so : {Q H : Type 0} (says : Grammars Q H) (line : Line) → 0 < length line → length line ≤ query_limit
-    → said says line ≡ Some (says line)
+    → line_says says line ≡ Some (says line)
 says_so {Q} {H} says line some short =
     let is : ltb query_limit (length line) ≡ false = grind (arith, nat_tests) in
     let refused : Option (LineMeaning Q H) = Some (LineMeaning.Refused TooLong) in
@@ -99,19 +99,19 @@ says_so {Q} {H} says line some short =
 
 -- a frame that is read as it is
 pub line_frame : {Q H : Type 0} (says : Grammars Q H) (held : List ℕ) (end : ℕ) (meaning : Option (LineMeaning Q H))
-    (meant read : Option (QueryAsked Q H)) → end < length held → Ends held (take end held) (drop (end + 1) held)
-    → said says (line_of (take end held)) ≡ meaning → packet_size meaning ≡ 0 → asked_with meaning [] ≡ meant
+    (meant read : Option (QueryAsked Q H)) → end < length held → IsCutAtEnd held (take end held) (drop (end + 1) held)
+    → line_says says (line_of (take end held)) ≡ meaning → packet_size meaning ≡ 0 → asked_with meaning [] ≡ meant
     → IsReadAs meant read
     → ReadsWhole (query_rules says) (HoldsQuery says (FrameStage.Line 0)) held held []
-    (option_map wanted read) (end + 1)
+    (option_map query_want read) (end + 1)
 line_frame says held end meaning meant read within ends is none asked reads =
     reads_frame says held held (take end held) [] (end + 1) meant read (omega (arith, within)) (omega arith) ends
     (sym (ap packet_size is ∙ none)) (ap (λ m. asked_with m []) is ∙ asked) reads
 
 pub refused_frame : {Q H : Type 0} (says : Grammars Q H) (held : List ℕ) (end : ℕ) (read : Option (LineMeaning Q H))
     (refusal : QueryRefusal) (want : Want (QueryAsked Q H) NoEnd) → end < length held
-    → Ends held (take end held) (drop (end + 1) held) → IsMeaning says (line_of (take end held)) read
-    → read ≡ Some (LineMeaning.Refused refusal) → want ≡ wanted (QueryAsked.Refuse refusal)
+    → IsCutAtEnd held (take end held) (drop (end + 1) held) → IsMeaning says (line_of (take end held)) read
+    → read ≡ Some (LineMeaning.Refused refusal) → want ≡ query_want (QueryAsked.Refuse refusal)
     → ReadsWhole (query_rules says) (HoldsQuery says (FrameStage.Line 0)) held held [] (Some want) (end + 1)
 refused_frame {Q} {H} says held end read refusal want within ends (inl same) is wants =
     let W : Want (QueryAsked Q H) NoEnd → Type 0 = λ w. ReadsWhole (query_rules says) (HoldsQuery says
@@ -127,7 +127,7 @@ refused_frame {Q} {H} says held end read refusal want within ends (inr (some, sh
     [] (Some w) (end + 1) in
     let line = line_of (take end held) in
     let which : NoMemory ≡ refusal = ap refusal_in (sym none ∙ is) in
-    subst W (ap (λ r. wanted (QueryAsked.Refuse r)) which ∙ sym wants)
+    subst W (ap (λ r. query_want (QueryAsked.Refuse r)) which ∙ sym wants)
     (memory_frame says held end (says line) within ends (says_so says line some short) whole)
   where
     refusal_in : {Q H : Type 0} → Option (LineMeaning Q H) → QueryRefusal
@@ -138,10 +138,10 @@ refused_frame {Q} {H} says held end read refusal want within ends (inr (some, sh
     refusal_in (Some (LineMeaning.Skipped refusal size)) = NoMemory
 
     memory_frame : {Q H : Type 0} (says : Grammars Q H) (held : List ℕ) (end : ℕ) (meaning : LineMeaning Q H)
-        → end < length held → Ends held (take end held) (drop (end + 1) held)
-        → said says (line_of (take end held)) ≡ Some meaning → IsWhole meaning
+        → end < length held → IsCutAtEnd held (take end held) (drop (end + 1) held)
+        → line_says says (line_of (take end held)) ≡ Some meaning → IsWholeQuery meaning
         → ReadsWhole (query_rules says) (HoldsQuery says (FrameStage.Line 0)) held held []
-        (Some (wanted (QueryAsked.Refuse NoMemory))) (end + 1)
+        (Some (query_want (QueryAsked.Refuse NoMemory))) (end + 1)
     memory_frame says held end (LineMeaning.Refused refusal) within ends is whole = absurd whole
     memory_frame says held end (LineMeaning.Query query) within ends is whole =
         line_frame says held end (Some (LineMeaning.Query query)) (Some (QueryAsked.Query query))
@@ -151,8 +151,8 @@ refused_frame {Q} {H} says held end read refusal want within ends (inr (some, sh
 
 pub query_frame : {Q H : Type 0} (says : Grammars Q H) (held : List ℕ) (end : ℕ) (read : Option (LineMeaning Q H))
     (query : Q) (want : Want (QueryAsked Q H) NoEnd) → end < length held
-    → Ends held (take end held) (drop (end + 1) held) → IsMeaning says (line_of (take end held)) read
-    → read ≡ Some (LineMeaning.Query query) → want ≡ wanted (QueryAsked.Query query)
+    → IsCutAtEnd held (take end held) (drop (end + 1) held) → IsMeaning says (line_of (take end held)) read
+    → read ≡ Some (LineMeaning.Query query) → want ≡ query_want (QueryAsked.Query query)
     → ReadsWhole (query_rules says) (HoldsQuery says (FrameStage.Line 0)) held held [] (Some want) (end + 1)
 query_frame {Q} {H} says held end read query want within ends (inl same) is wants =
     let W : Want (QueryAsked Q H) NoEnd → Type 0 = λ w. ReadsWhole (query_rules says) (HoldsQuery says
@@ -169,17 +169,17 @@ query_frame says held end read query want within ends (inr (some, short, whole, 
 -- a packet that is held was read
 pub packet_frame : {Q H : Type 0} (says : Grammars Q H) (bytes held part after : List ℕ) (count size : ℕ) (head : H)
     (asked : QueryAsked Q H) (want : Want (QueryAsked Q H) NoEnd) → count ≤ length held → 0 < count
-    → Ends bytes part after
-    → said says (line_of part) ≡ Some (LineMeaning.Packet head size) → size ≤ length after
+    → IsCutAtEnd bytes part after
+    → line_says says (line_of part) ≡ Some (LineMeaning.Packet head size) → size ≤ length after
     → drop size after ≡ drop count held
-    → (asked ≡ QueryAsked.Packet head (take size after)) ⊎ (asked ≡ QueryAsked.Refuse NoMemory) → want ≡ wanted asked
+    → (asked ≡ QueryAsked.Packet head (take size after)) ⊎ (asked ≡ QueryAsked.Refuse NoMemory) → want ≡ query_want asked
     → ReadsWhole (query_rules says) (HoldsQuery says (FrameStage.Line 0)) bytes held [] (Some want) count
 packet_frame {Q} {H} says bytes held part after count size head asked want within some ends is whole rest read wants =
     let W : Want (QueryAsked Q H) NoEnd → Type 0 = λ w. ReadsWhole (query_rules says) (HoldsQuery says
     (FrameStage.Line 0)) bytes held
     [] (Some w) count in
     let packet = take size after in
-    let E : List ℕ → Type 0 = λ xs. Ends bytes part xs in
+    let E : List ℕ → Type 0 = λ xs. IsCutAtEnd bytes part xs in
     let parts : after ≡ packet ++ drop count held = sym (take-append-drop size after) ∙ ap (λ xs. packet ++ xs) rest in
     subst W (sym wants)
     (reads_frame says bytes held part packet count (Some (QueryAsked.Packet head packet)) (Some asked) within some
@@ -195,16 +195,16 @@ packet_frame {Q} {H} says bytes held part after count size head asked want withi
 -- a packet was skipped to its end
 pub skipped_frame : {Q H : Type 0} (says : Grammars Q H) (bytes held part after : List ℕ) (count size : ℕ)
     (refusal : QueryRefusal) (want : Want (QueryAsked Q H) NoEnd) → count ≤ length held → 0 < count
-    → Ends bytes part after
-    → said says (line_of part) ≡ Some (LineMeaning.Skipped refusal size) → size ≤ length after
-    → drop size after ≡ drop count held → want ≡ wanted (QueryAsked.Refuse refusal)
+    → IsCutAtEnd bytes part after
+    → line_says says (line_of part) ≡ Some (LineMeaning.Skipped refusal size) → size ≤ length after
+    → drop size after ≡ drop count held → want ≡ query_want (QueryAsked.Refuse refusal)
     → ReadsWhole (query_rules says) (HoldsQuery says (FrameStage.Line 0)) bytes held [] (Some want) count
 skipped_frame {Q} {H} says bytes held part after count size refusal want within some ends is whole rest wants =
     let W : Want (QueryAsked Q H) NoEnd → Type 0 = λ w. ReadsWhole (query_rules says) (HoldsQuery says
     (FrameStage.Line 0)) bytes held
     [] (Some w) count in
     let packet = take size after in
-    let E : List ℕ → Type 0 = λ xs. Ends bytes part xs in
+    let E : List ℕ → Type 0 = λ xs. IsCutAtEnd bytes part xs in
     let asked : Option (QueryAsked Q H) = Some (QueryAsked.Refuse refusal) in
     let parts : after ≡ packet ++ drop count held = sym (take-append-drop size after) ∙ ap (λ xs. packet ++ xs) rest in
     subst W (sym wants)
@@ -225,7 +225,7 @@ pub skips_on : {Q H : Type 0} (says : Grammars Q H) (bytes held : List ℕ) (ref
     → ReadsMore (query_rules says) (HoldsQuery says (FrameStage.Skipped refusal
     (left - length held))) bytes held [] (length held)
 skips_on {Q} {H} says bytes held refusal left short (part, dropped, ends, is, some) =
-    let M : ℕ → Type 0 = λ n. said says (line_of part) ≡ Some (LineMeaning.Skipped refusal n) in
+    let M : ℕ → Type 0 = λ n. line_says says (line_of part) ≡ Some (LineMeaning.Skipped refusal n) in
     let size : length (dropped ++ held) + (left - length held) ≡ length dropped + left = omega
     (arith, length-append dropped held, short) in
     let none : drop (length held) held ≡ [] = drop-all held in
@@ -261,7 +261,7 @@ skips_on {Q} {H} says bytes held refusal left short (part, dropped, ends, is, so
 
 -- every list of bytes has a line end, or none
 abbrev Parted : List ℕ → Type 0
-Parted bytes = HasNoEnd bytes ⊎ ((part : List ℕ) × (after : List ℕ) × Ends bytes part after)
+Parted bytes = HasNoEnd bytes ⊎ ((part : List ℕ) × (after : List ℕ) × IsCutAtEnd bytes part after)
 
 parted : (bytes : List ℕ) → Parted bytes
 parted [] = inl HasNoEnd-nil
@@ -282,8 +282,8 @@ parted (byte ∷ bytes) = elim (eqb_tells byte 10) [
 
 -- the line continues to its own end
 ends_after : (bytes dropped held part after : List ℕ) → bytes ≡ dropped ++ held → HasNoEnd dropped
-    → Ends held part after
-    → Ends bytes (dropped ++ part) after
+    → IsCutAtEnd held part after
+    → IsCutAtEnd bytes (dropped ++ part) after
 ends_after bytes dropped held part after parts none ends = record {
   parts = parts ∙ (ap (λ xs. dropped ++ xs) ends.parts
       ∙ (sym (append_assoc dropped (part ++ 10 ∷ []) after)
@@ -297,9 +297,9 @@ long_line dropped part long = omega (arith, length-line_of (dropped ++ part), le
 
 pub long_ends : {Q H : Type 0} (says : Grammars Q H) (bytes held : List ℕ) (end : ℕ) (want : Want
     (QueryAsked Q H) NoEnd)
-    → HoldsQuery says FrameStage.LongLine held bytes → Ends held (take end held) (drop (end + 1) held)
+    → HoldsQuery says FrameStage.LongLine held bytes → IsCutAtEnd held (take end held) (drop (end + 1) held)
     → end < length held
-    → want ≡ wanted (QueryAsked.Refuse TooLong)
+    → want ≡ query_want (QueryAsked.Refuse TooLong)
     → ReadsWhole (query_rules says) (HoldsQuery says (FrameStage.Line 0)) bytes held [] (Some want) (end + 1)
 long_ends {Q} {H} says bytes held end want (dropped, parts, none, long) ends within wants =
     let W : Want (QueryAsked Q H) NoEnd → Type 0 = λ w. ReadsWhole (query_rules says) (HoldsQuery says
@@ -332,14 +332,14 @@ long_asked says bytes dropped held parts none long (inr (part, after, ends)) = (
 )
 
 pub long_last : {Q H : Type 0} (says : Grammars Q H) (bytes held : List ℕ) (want : Want (QueryAsked Q H) NoEnd)
-    → HoldsQuery says FrameStage.LongLine held bytes → want ≡ wanted (QueryAsked.Refuse TooLong)
+    → HoldsQuery says FrameStage.LongLine held bytes → want ≡ query_want (QueryAsked.Refuse TooLong)
     → EndsInput says bytes (Some want)
 long_last says bytes held want (dropped, parts, none, long) wants =
     (Some (QueryAsked.Refuse TooLong), long_asked says bytes dropped held parts none long (parted held), ap Some wants)
 
 pub packet_last : {Q H : Type 0} (says : Grammars Q H) (bytes held : List ℕ) (head : H) (size : ℕ)
     (want : Want (QueryAsked Q H) NoEnd) → HoldsQuery says (FrameStage.Packet head size) held bytes
-    → want ≡ wanted (QueryAsked.Refuse Truncated) → EndsInput says bytes (Some want)
+    → want ≡ query_want (QueryAsked.Refuse Truncated) → EndsInput says bytes (Some want)
 packet_last says bytes held head size want (part, ends, is, some) wants = (
   Some (QueryAsked.Refuse Truncated),
   (line_of part, inr (part, held, ends, refl), inl (sym (ap asked_at_end is))),
@@ -348,7 +348,7 @@ packet_last says bytes held head size want (part, ends, is, some) wants = (
 
 pub skipped_last : {Q H : Type 0} (says : Grammars Q H) (bytes held : List ℕ) (refusal : QueryRefusal) (left : ℕ)
     (want : Want (QueryAsked Q H) NoEnd) → HoldsQuery says (FrameStage.Skipped refusal left) held bytes
-    → want ≡ wanted (QueryAsked.Refuse refusal) → EndsInput says bytes (Some want)
+    → want ≡ query_want (QueryAsked.Refuse refusal) → EndsInput says bytes (Some want)
 skipped_last says bytes held refusal left want (part, dropped, ends, is, some) wants = (
   Some (QueryAsked.Refuse refusal),
   (line_of part, inr (part, dropped ++ held, ends, refl), inl (sym (ap asked_at_end is))),

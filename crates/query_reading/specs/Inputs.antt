@@ -6,8 +6,8 @@ use Rattle.request_loop.specs.Sessions.{Session}
 use Rattle.request_loop.specs.declared.frames.Want.{Want}
 use Rattle.line_reading.specs.Lines.{Line}
 use Rattle.line_reading.specs.declared.framing.NoEnd.{NoEnd}
-use Rattle.query_reading.specs.Meanings.{asked_at_end, said}
-use Rattle.query_reading.specs.QueryFrames.{IsBegun, IsFirstLine, query_rules, wanted}
+use Rattle.query_reading.specs.Meanings.{asked_at_end, line_says}
+use Rattle.query_reading.specs.QueryFrames.{IsFirstLine, IsStartOfQuery, query_rules, query_want}
 use Rattle.query_reading.specs.Replies.{all_bytes}
 use Rattle.query_reading.specs.declared.asked.QueryAsked.{QueryAsked}
 use Rattle.query_reading.specs.declared.grammar.LineMeaning.{LineMeaning}
@@ -21,9 +21,9 @@ pub record AsksInOrder {Q H : Type 0} (says : Line → LineMeaning Q H) (bytes :
   pub rest : List ℕ
   pub line : Line
   pub are : Frames (query_rules says) bytes frames rest
-  pub begun : IsBegun says rest
+  pub begun : IsStartOfQuery says rest
   pub line_is : IsFirstLine rest line
-  pub asks_are : asks ≡ asks_of (frames ++ option_map wanted (asked_at_end (said says line)) ∷ [])
+  pub asks_are : asks ≡ asks_of (frames ++ option_map query_want (asked_at_end (line_says says line)) ∷ [])
 
 -- All that these bytes ask was answered, in order, by steps from one state of the answerer to another. The written
 -- bytes are those of the replies, in order.

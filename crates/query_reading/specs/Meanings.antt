@@ -11,23 +11,23 @@ query_limit = 4_096
 
 -- What a line says by a grammar: an empty line says nothing, and a line that is too long is refused, whatever it
 -- contains.
-abbrev pub said : {Q H : Type 0} → (Line → LineMeaning Q H) → Line → Option (LineMeaning Q H)
-said says line =
+abbrev pub line_says : {Q H : Type 0} → (Line → LineMeaning Q H) → Line → Option (LineMeaning Q H)
+line_says says line =
     if length line == 0 then None
     else (if nat_lt query_limit (length line) then Some (LineMeaning.Refused TooLong) else Some (says line))
 
 -- A query without a packet.
-abbrev pub IsWhole : {Q H : Type 0} → LineMeaning Q H → Type 0
-IsWhole (LineMeaning.Refused refusal) = ⊥
-IsWhole (LineMeaning.Query query) = Unit {0}
-IsWhole (LineMeaning.Packet head size) = ⊥
-IsWhole (LineMeaning.Skipped refusal size) = ⊥
+abbrev pub IsWholeQuery : {Q H : Type 0} → LineMeaning Q H → Type 0
+IsWholeQuery (LineMeaning.Refused refusal) = ⊥
+IsWholeQuery (LineMeaning.Query query) = Unit {0}
+IsWholeQuery (LineMeaning.Packet head size) = ⊥
+IsWholeQuery (LineMeaning.Skipped refusal size) = ⊥
 
 -- What a line says was read; or it is a query without a packet, and memory ran out, which is its refusal.
 abbrev pub IsMeaning : {Q H : Type 0} → (Line → LineMeaning Q H) → Line → Option (LineMeaning Q H) → Type 0
 IsMeaning says line read =
-    (read ≡ said says line)
-    ⊎ ((0 < length line) × (length line ≤ query_limit) × IsWhole (says line)
+    (read ≡ line_says says line)
+    ⊎ ((0 < length line) × (length line ≤ query_limit) × IsWholeQuery (says line)
     × (read ≡ Some (LineMeaning.Refused NoMemory)))
 
 -- How many bytes after the line's end are its packet.

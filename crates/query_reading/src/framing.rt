@@ -1,8 +1,8 @@
 //! Lines of queries as the frames of an input.
 ghost use Rattle.std.specs.Prelude.{◌≡◌, ◌⊎◌, ◌≤◌, ◌<◌, ◌+◌, ℕ, List, [], length, take, drop, Option, Some, None};
-ghost use Rattle.line_reading.specs.Lines.{Ends, HasNoEnd, line_of};
-ghost use Rattle.query_reading.specs.Meanings.{IsMeaning, asked_at_end, said};
-ghost use Rattle.query_reading.specs.QueryFrames.{EndsAsked, IsFirstLine, wanted};
+ghost use Rattle.line_reading.specs.Lines.{HasNoEnd, IsCutAtEnd, line_of};
+ghost use Rattle.query_reading.specs.Meanings.{IsMeaning, asked_at_end, line_says};
+ghost use Rattle.query_reading.specs.QueryFrames.{EndsAsked, IsFirstLine, query_want};
 ghost use Rattle.query_reading.specs.declared.asked.QueryAsked.{QueryAsked as Asking};
 ghost use Rattle.query_reading.specs.declared.grammar.LineMeaning.{LineMeaning as Meaning};
 ghost use Rattle.query_reading.specs.declared.refusal.QueryRefusal.{QueryRefusal as Refusing};
@@ -78,7 +78,7 @@ impl<G: Grammar> QueryFraming<G> {
     // Reads the line that ends there, and its packet if all of it is held.
     fn read_query(&mut self, held: &[u8], end: usize) -> QueryFront<G>
         requires within { end < length held.now }
-        ensures { Ends held.now (take end held.now) (drop (end + 1) held.now)
+        ensures { IsCutAtEnd held.now (take end held.now) (drop (end + 1) held.now)
             → ReadsFront (query_rules G.says) (HoldsQuery G.says self.new.stage) [] held.now held.now result }
     {
         self.stage = FrameStage::Line(0);
@@ -100,8 +100,8 @@ impl<G: Grammar> QueryFraming<G> {
     // Reads the packet of this many bytes after the line that ends there, or waits for it.
     fn begin_packet(&mut self, held: &[u8], end: usize, head: G::Head, size: usize) -> QueryFront<G>
         requires within { end < length held.now }
-        ensures { Ends held.now (take end held.now) (drop (end + 1) held.now)
-            → said G.says (line_of (take end held.now)) ≡ Some (Meaning.Packet head size)
+        ensures { IsCutAtEnd held.now (take end held.now) (drop (end + 1) held.now)
+            → line_says G.says (line_of (take end held.now)) ≡ Some (Meaning.Packet head size)
             → ReadsFront (query_rules G.says) (HoldsQuery G.says self.new.stage) [] held.now held.now result }
     {
         let (_, after) = held.split_at(end + 1);
@@ -123,8 +123,8 @@ impl<G: Grammar> QueryFraming<G> {
         size: usize,
     ) -> QueryFront<G>
         requires within { end < length held.now }
-        ensures { Ends held.now (take end held.now) (drop (end + 1) held.now)
-            → said G.says (line_of (take end held.now)) ≡ Some (Meaning.Skipped refusal size)
+        ensures { IsCutAtEnd held.now (take end held.now) (drop (end + 1) held.now)
+            → line_says G.says (line_of (take end held.now)) ≡ Some (Meaning.Skipped refusal size)
             → ReadsFront (query_rules G.says) (HoldsQuery G.says self.new.stage) [] held.now held.now result }
     {
         let (_, after) = held.split_at(end + 1);
@@ -247,7 +247,7 @@ fn packet_of<Q: Drop, H: Copy>(alloc: Global, head: H, packet: &[u8]) -> QueryAs
 
 // What is wanted if this is asked.
 fn want_of<Q: Drop, H: Copy>(asked: QueryAsked<Q, H>) -> Want<QueryAsked<Q, H>, NoEnd>
-    ensures { result ≡ wanted asked }
+    ensures { result ≡ query_want asked }
 {
     Want { asked, ends: None }
 }

@@ -1,6 +1,6 @@
 //! The meaning of lines.
 ghost use Rattle.std.specs.Prelude.{◌≡◌, ℕ, List, IfOk, OnErr};
-ghost use Rattle.query_reading.specs.Meanings.{IsWhole};
+ghost use Rattle.query_reading.specs.Meanings.{IsWholeQuery};
 ghost use Rattle.query_reading.specs.declared.grammar.LineMeaning.{LineMeaning as Meaning};
 
 use crate::refusal::QueryRefusal;
@@ -40,5 +40,5 @@ pub trait Grammar: Drop {
         line: &[u8],
     ) -> Result<LineMeaning<Self::Query, Self::Head>, NoMemory>
         ensures ok { IfOk result (λ meaning. meaning ≡ says line.now) }
-        ensures err { OnErr result (IsWhole (says line.now)) };
+        ensures err { OnErr result (IsWholeQuery (says line.now)) };
 }

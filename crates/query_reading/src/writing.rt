@@ -1,7 +1,7 @@
 //! The writing of replies.
 ghost use Rattle.std.specs.Prelude.{◌≡◌, [], ◌∷◌, ◌++◌, decimal, IsErrOf};
 ghost use Rattle.lei_outside.specs.Faults.{FailsLast};
-ghost use Rattle.lei_outside.specs.Links.{told_by};
+ghost use Rattle.lei_outside.specs.Links.{link_told};
 ghost use Rattle.request_loop.specs.Wires.{IsSent};
 ghost use Rattle.line_reading.specs.WriteBuffer.{Puts};
 ghost use Rattle.query_reading.specs.Refusals.{query_code, query_words};
@@ -23,7 +23,7 @@ pub fn send_query_reply<L: Wire>(
     ensures sent { IsSent (L.written link.old) (L.written link.new) (query_bytes reply.now) result }
     ensures kept { ¬ (IsErrOf result SinkFault.Failed) → L.write_faults link.new ≡ L.write_faults link.old }
     ensures failed { IsErrOf result SinkFault.Failed →
-        FailsLast (told_by L.left L.written) L.write_faults link.old link.new }
+        FailsLast (link_told L.left L.written) L.write_faults link.old link.new }
     ensures left { L.left link.new ≡ L.left link.old }
     ensures read_count { L.read_faults link.new ≡ L.read_faults link.old }
     ensures wire { L.lends_same link.old link.new }
@@ -43,7 +43,7 @@ fn put_reply<L: Wire>(
         (buffer.old ++ query_bytes reply.now) result buffer.new }
     ensures kept { ¬ (IsErrOf result SinkFault.Failed) → L.write_faults link.new ≡ L.write_faults link.old }
     ensures failed { IsErrOf result SinkFault.Failed →
-        FailsLast (told_by L.left L.written) L.write_faults link.old link.new }
+        FailsLast (link_told L.left L.written) L.write_faults link.old link.new }
     ensures left { L.left link.new ≡ L.left link.old }
     ensures read_count { L.read_faults link.new ≡ L.read_faults link.old }
     ensures wire { L.lends_same link.old link.new }
@@ -73,7 +73,7 @@ fn put_refusal<L: Wire>(
         (buffer.old ++ (decimal (query_code refusal) ++ 32 ∷ (query_words refusal ++ 10 ∷ []))) result buffer.new }
     ensures kept { ¬ (IsErrOf result SinkFault.Failed) → L.write_faults link.new ≡ L.write_faults link.old }
     ensures failed { IsErrOf result SinkFault.Failed →
-        FailsLast (told_by L.left L.written) L.write_faults link.old link.new }
+        FailsLast (link_told L.left L.written) L.write_faults link.old link.new }
     ensures left { L.left link.new ≡ L.left link.old }
     ensures read_count { L.read_faults link.new ≡ L.read_faults link.old }
     ensures wire { L.lends_same link.old link.new }

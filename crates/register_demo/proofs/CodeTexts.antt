@@ -7,7 +7,7 @@ use Rattle.std.proofs.lemmas.List.Elements.{All-append, All-get_or, All-nil, All
 use Rattle.lei_code.specs.Code.{IsWellFormed}
 use Rattle.lei_code.specs.Fault.{fault_of, first_wrong}
 use Rattle.lei_code.specs.Number.{number}
-use Rattle.lei_code.proofs.Places.{may_stand-digit}
+use Rattle.lei_code.proofs.Places.{may_be_at-digit}
 use Rattle.register_demo.specs.Codes.{first_issuer, in_18_digits, manager, second_issuer}
 
 abbrev IsDigit : ℕ → Type 0
@@ -35,7 +35,7 @@ well-formed i small =
     record {
       each = λ place low high.
           let digit = All-get_or IsDigit (in_18_digits i) (place - 1) 0 (omega arith) all in
-          may_stand-digit place (get_or (in_18_digits i) (place - 1) 0) digit.0 digit.1;
+          may_be_at-digit place (get_or (in_18_digits i) (place - 1) 0) digit.0 digit.1;
     }
 
 -- ---- the issuers

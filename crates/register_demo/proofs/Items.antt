@@ -2,7 +2,7 @@
 use Rattle.std.proofs.Common.{◌≡◌, ℕ, zero, suc, ◌+◌, ◌-◌, ◌/◌, ◌<◌, ◌≤◌, List, [], ◌∷◌, ◌++◌, map, ap, sym, subst, refl, ◌∙◌, arith, append_assoc}
 use Rattle.std.specs.Prelude.{codes, decimal}
 use Rattle.std.specs.List.{range_with_len}
-use Rattle.register_demo.specs.Bodies.{authority_id, elements, fields_of_record, fields_of_relationship, from_to, item_text, object_text}
+use Rattle.register_demo.specs.Bodies.{authority_id, demo_item_text, elements, fields_of_record, fields_of_relationship, from_to, object_text}
 use Rattle.register_demo.specs.Codes.{demo_code}
 use Rattle.register_demo.specs.declared.plan.Group.TheVariants as groups
 
@@ -70,7 +70,7 @@ nest-five a b c d e x = nest-three a b (c ++ (d ++ e)) x ∙ ap (λ xs. a ++ (b 
 pub record-put : (i : ℕ) (manager old named coded out : List ℕ)
     → named ≡ old ++ (to_name ++ (decimal i ++ (to_authority_id ++ (decimal (authority_id i) ++ to_lei))))
     → coded ≡ named ++ demo_code i → out ≡ coded ++ (to_record_manager ++ (manager ++ to_record_end))
-    → out ≡ old ++ item_text groups.Records manager i
+    → out ≡ old ++ demo_item_text groups.Records manager i
 record-put i manager old named coded out first second third =
     let names = to_name ++ (decimal i ++ (to_authority_id ++ (decimal (authority_id i) ++ to_lei))) in
     let rest = to_record_manager ++ (manager ++ to_record_end) in
@@ -82,7 +82,7 @@ record-put i manager old named coded out first second third =
 pub relationship-put : (i : ℕ) (manager old one two three four out : List ℕ)
     → one ≡ old ++ (to_manager ++ (manager ++ to_parent)) → two ≡ one ++ demo_code (i / 2)
     → three ≡ two ++ to_start → four ≡ three ++ demo_code i → out ≡ four ++ to_end
-    → out ≡ old ++ item_text groups.Relationships manager i
+    → out ≡ old ++ demo_item_text groups.Relationships manager i
 relationship-put i manager old one two three four out a b c d e =
     let starts = demo_code i ++ to_end in
     let parents = demo_code (i / 2) ++ (to_start ++ starts) in

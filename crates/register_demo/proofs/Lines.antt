@@ -2,12 +2,12 @@
 use Rattle.std.proofs.Common.{◌≡◌, ℕ, List, [], ◌∷◌, ◌++◌, ap, refl, sym, ◌∙◌, append_assoc}
 use Rattle.std.specs.Prelude.{decimal, flat_map}
 use Rattle.std.proofs.lemmas.List.{append-nil}
-use Rattle.register_demo.specs.Summary.{line, lines_text}
+use Rattle.register_demo.specs.Summary.{lines_text, summary_line}
 
 -- the lines of two lists
 pub lines-append : (xs ys : List (List ℕ × List ℕ)) → lines_text (xs ++ ys) ≡ lines_text xs ++ lines_text ys
 lines-append [] ys = refl
-lines-append (x ∷ xs) ys = ap (λ text. line x ++ text) (lines-append xs ys) ∙ sym (append_assoc (line x) (lines_text xs) (lines_text ys))
+lines-append (x ∷ xs) ys = ap (λ text. summary_line x ++ text) (lines-append xs ys) ∙ sym (append_assoc (summary_line x) (lines_text xs) (lines_text ys))
 
 -- no lines yet
 pub no-lines : (old : List ℕ) → old ≡ old ++ lines_text []

@@ -5,15 +5,15 @@ use Rattle.register_words.specs.declared.sheets.Form.TheVariants.{Csv}
 use Rattle.register_words.specs.declared.sheets.Sheet.TheVariants.{Rr}
 use Rattle.delta_apply.specs.declared.fault.ApplyFault.{ApplyFault}
 use Rattle.delta_apply.specs.declared.fault.ApplyFault.TheVariants as faults
-use Rattle.delta_apply.specs.Applying.{IsAnswer, UnlessNoMemory}
+use Rattle.delta_apply.specs.Applying.{IsAnswer, UnlessApplyLacksMemory}
 use Rattle.register_words.specs.declared.reply.Reply.{Reply}
 use Rattle.register_words.specs.declared.request.Request.{Request}
 use Rattle.register_history.specs.Legal.{Legal}
 use Rattle.register_history.specs.State.{OfficeState}
-use Rattle.register_demo.specs.Marks.{rows_in}
+use Rattle.register_demo.specs.Marks.{row_count_in}
 use Rattle.register_demo.specs.Plan.{block_count}
-use Rattle.register_demo.specs.Requests.{Answers, accreditations, deltas, demo_requests, first_publication, office_from, replies_from, second_publication, uploads_of}
-use Rattle.register_demo.specs.Session.{AreReplies, DemoReplies, IsPatchedSize, IsTold, MakesRecords, MakesRelationships, Repeats, is_made, is_told, size_of, text_of, texts_of}
+use Rattle.register_demo.specs.Requests.{RepliesFrom, accreditations, deltas, demo_requests, first_publication, office_from, replies_from, second_publication, uploads_of}
+use Rattle.register_demo.specs.Session.{AreReplies, DemoReplies, IsDemoTold, IsPatchedSize, MakesRecords, MakesRelationships, Repeats, has_text, is_publication_reply, patched_size, text_in_reply, texts_of_replies}
 use Rattle.register_demo.specs.declared.plan.Group.{Group}
 use Rattle.register_demo.specs.declared.plan.Group.TheVariants.{Records, Relationships}
 use Rattle.register_demo.specs.declared.summary.Told.{Told}
@@ -25,9 +25,9 @@ each-told office count n group = length-replies office count (uploads_of group n
 
 -- the records were sent after the accreditations, and published
 pub makes-records : (n behind : ℕ) (o1 o2 o3 o4 : OfficeState) (old new : List ℕ) (first second publication lei copy : Reply)
-    → Answers o1 0 accreditations (first ∷ second ∷ []) o2 → new ≡ old ++ texts_of (replies_from o2 2 (uploads_of Records n))
+    → RepliesFrom o1 0 accreditations (first ∷ second ∷ []) o2 → new ≡ old ++ texts_of_replies (replies_from o2 2 (uploads_of Records n))
     → o3 ≡ office_from o2 2 (uploads_of Records n) → behind ≡ block_count n + 2
-    → Answers o3 behind first_publication (publication ∷ lei ∷ copy ∷ []) o4
+    → RepliesFrom o3 behind first_publication (publication ∷ lei ∷ copy ∷ []) o4
     → MakesRecords n o1 o4 old new publication copy
 makes-records n behind o1 o2 o3 o4 old new first second publication lei copy accredited texts leads is published =
     let sent = replies_from o2 2 (uploads_of Records n) in
@@ -47,14 +47,14 @@ makes-records n behind o1 o2 o3 o4 old new first second publication lei copy acc
 
 -- the relationships were sent, and published
 pub makes-relationships : (n count behind : ℕ) (o1 o2 o3 : OfficeState) (old new : List ℕ) (publication : Reply)
-    → count ≡ block_count n + 5 → new ≡ old ++ texts_of (replies_from o1 count (uploads_of Relationships n))
+    → count ≡ block_count n + 5 → new ≡ old ++ texts_of_replies (replies_from o1 count (uploads_of Relationships n))
     → o2 ≡ office_from o1 count (uploads_of Relationships n) → behind ≡ 2 * block_count n + 5
-    → Answers o2 behind second_publication (publication ∷ []) o3
+    → RepliesFrom o2 behind second_publication (publication ∷ []) o3
     → MakesRelationships n o1 o3 old new publication
 makes-relationships n count behind o1 o2 o3 old new publication begins texts leads is published =
     let sent = replies_from o1 count (uploads_of Relationships n) in
     let many = length-uploads Relationships n in
-    let A : ℕ → Type 0 = λ k. Answers o1 k (uploads_of Relationships n ++ second_publication) (sent ++ (publication ∷ [])) o3 in
+    let A : ℕ → Type 0 = λ k. RepliesFrom o1 k (uploads_of Relationships n ++ second_publication) (sent ++ (publication ∷ [])) o3 in
     record {
       relationships = sent;
       answers = subst A begins (answers-append o1 o2 o3 count behind (uploads_of Relationships n) second_publication sent (publication ∷ [])
@@ -65,13 +65,13 @@ makes-relationships n count behind o1 o2 o3 old new publication begins texts lea
 
 -- the records were sent once more, and the deltas were asked for
 pub repeats : (n count behind told : ℕ) (o1 o2 o3 : OfficeState) (lei rr : Reply)
-    → count ≡ 2 * block_count n + 6 → told ≡ count_by is_told (replies_from o1 count (uploads_of Records n))
+    → count ≡ 2 * block_count n + 6 → told ≡ count_by has_text (replies_from o1 count (uploads_of Records n))
     → o2 ≡ office_from o1 count (uploads_of Records n) → behind ≡ 3 * block_count n + 6
-    → Answers o2 behind deltas (lei ∷ rr ∷ []) o3 → Legal o3 → Repeats n o1 o3 told lei rr
+    → RepliesFrom o2 behind deltas (lei ∷ rr ∷ []) o3 → Legal o3 → Repeats n o1 o3 told lei rr
 repeats n count behind told o1 o2 o3 lei rr begins counted leads is asked legal =
     let sent = replies_from o1 count (uploads_of Records n) in
     let many = length-uploads Records n in
-    let A : ℕ → Type 0 = λ k. Answers o1 k (uploads_of Records n ++ deltas) (sent ++ (lei ∷ rr ∷ [])) o3 in
+    let A : ℕ → Type 0 = λ k. RepliesFrom o1 k (uploads_of Records n ++ deltas) (sent ++ (lei ∷ rr ∷ [])) o3 in
     record {
       replies = sent;
       answers = subst A begins (answers-append o1 o2 o3 count behind (uploads_of Records n) deltas sent (lei ∷ rr ∷ [])
@@ -101,16 +101,16 @@ length-middle n =
     let many = length-uploads Relationships n in
     omega (arith, all, many)
 
-texts-append : (xs ys : List Reply) → texts_of (xs ++ ys) ≡ texts_of xs ++ texts_of ys
+texts-append : (xs ys : List Reply) → texts_of_replies (xs ++ ys) ≡ texts_of_replies xs ++ texts_of_replies ys
 texts-append [] ys = refl
-texts-append (x ∷ xs) ys = ap (λ text. text_of x ++ text) (texts-append xs ys) ∙ sym (append_assoc (text_of x) (texts_of xs) (texts_of ys))
+texts-append (x ∷ xs) ys = ap (λ text. text_in_reply x ++ text) (texts-append xs ys) ∙ sym (append_assoc (text_in_reply x) (texts_of_replies xs) (texts_of_replies ys))
 
 -- all requests were answered, and this is what the replies say
 pub tells : (n : ℕ) (o1 o2 o3 o4 : OfficeState) (new answers : List ℕ) (first copy second lei rr : Reply) (repeated : ℕ) (told : Told)
     → MakesRecords n o1 o2 [] new first copy → MakesRelationships n o2 o3 new answers second → Repeats n o3 o4 repeated lei rr
-    → told.answers.items ≡ answers → told.repeats ≡ repeated → told.publications ≡ count_by is_made (first ∷ second ∷ [])
-    → told.published ≡ text_of second → told.records ≡ rows_in (text_of lei) → told.relationships ≡ rows_in (text_of rr)
-    → IsPatchedSize (text_of copy) (text_of rr) told.applied → IsTold n o1 o4 told
+    → told.answers.items ≡ answers → told.repeats ≡ repeated → told.publications ≡ count_by is_publication_reply (first ∷ second ∷ [])
+    → told.published ≡ text_in_reply second → told.records ≡ row_count_in (text_in_reply lei) → told.relationships ≡ row_count_in (text_in_reply rr)
+    → IsPatchedSize (text_in_reply copy) (text_in_reply rr) told.applied → IsDemoTold n o1 o4 told
 tells n o1 o2 o3 o4 new answers first copy second lei rr repeated told a b c is_answers is_repeated is_made published records relationships applied =
     let up = uploads_of Records n in
     let links = uploads_of Relationships n in
@@ -146,7 +146,7 @@ tells n o1 o2 o3 o4 new answers first copy second lei rr repeated told a b c is_
       };
       leads = all.leads ∙ ap (office_from o1 0) requests;
       legal = c.legal;
-      answers = is_answers ∙ b.texts ∙ ap (λ text. text ++ texts_of b.relationships) a.texts ∙ sym (texts-append a.records b.relationships);
+      answers = is_answers ∙ b.texts ∙ ap (λ text. text ++ texts_of_replies b.relationships) a.texts ∙ sym (texts-append a.records b.relationships);
       repeats = is_repeated ∙ c.count;
       publications = is_made;
       published = published;
@@ -156,13 +156,13 @@ tells n o1 o2 o3 o4 new answers first copy second lei rr repeated told a b c is_
     }
 
 -- how many of two replies say that a publication was made
-pub two-made : (x y : Reply) (m k : ℕ) → m ≡ cond (is_made x) 1 0 → k ≡ cond (is_made y) 1 0 → m + k ≡ count_by is_made (x ∷ y ∷ [])
+pub two-made : (x y : Reply) (m k : ℕ) → m ≡ cond (is_publication_reply x) 1 0 → k ≡ cond (is_publication_reply y) 1 0 → m + k ≡ count_by is_publication_reply (x ∷ y ∷ [])
 two-made x y m k e f =
-    ap (λ v. v + k) (e ∙ sym (zero-add (cond (is_made x) 1 0))) ∙ ap (λ v. (0 + cond (is_made x) 1 0) + v) f
+    ap (λ v. v + k) (e ∙ sym (zero-add (cond (is_publication_reply x) 1 0))) ∙ ap (λ v. (0 + cond (is_publication_reply x) 1 0) + v) f
 
 -- the answer for a copy and a delta, unless memory ran out
-pub patched : (copy delta : List ℕ) (result : Result (List ℕ) ApplyFault) (size : ℕ) → UnlessNoMemory result (IsAnswer copy delta Rr Csv result)
-    → ¬ (result ≡ Err faults.NoMemory) → size ≡ size_of result → IsPatchedSize copy delta size
+pub patched : (copy delta : List ℕ) (result : Result (List ℕ) ApplyFault) (size : ℕ) → UnlessApplyLacksMemory result (IsAnswer copy delta Rr Csv result)
+    → ¬ (result ≡ Err faults.NoMemory) → size ≡ patched_size result → IsPatchedSize copy delta size
 patched copy delta (Ok bytes) size is some size_is = record { answer = Ok bytes; is = is; size_is = size_is }
 patched copy delta (Err faults.CopyNotRead) size is some size_is = record { answer = Err faults.CopyNotRead; is = is; size_is = size_is }
 patched copy delta (Err faults.DeltaNotRead) size is some size_is = record { answer = Err faults.DeltaNotRead; is = is; size_is = size_is }

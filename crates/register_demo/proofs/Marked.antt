@@ -6,12 +6,12 @@ use Rattle.std.proofs.Math.Seq.{drop-cons}
 use Rattle.std.proofs.lemmas.List.{length-drop, take_all, take_more}
 use Rattle.memchr.specs.Find.{FindsNeedle, matches}
 use Rattle.memchr.proofs.lemmas.MatchLemmas.{matches-first, matches-none}
-use Rattle.register_demo.specs.Marks.{behind, behind_place}
+use Rattle.register_demo.specs.Marks.{text_after, text_after_place}
 
 -- the text after the place that a search finds
-pub found : (mark text : List ℕ) (place : Option ℕ) → FindsNeedle text mark 0 place → behind_place mark text place ≡ behind mark text
-found mark text None is = sym (ap (λ places. behind_place mark text (slice_get places 0)) (matches-none text mark 0 is))
-found mark text (Some at) is = sym (ap (λ places. behind_place mark text (slice_get places 0)) (matches-first text mark 0 at is.0 is.1))
+pub found : (mark text : List ℕ) (place : Option ℕ) → FindsNeedle text mark 0 place → text_after_place mark text place ≡ text_after mark text
+found mark text None is = sym (ap (λ places. text_after_place mark text (slice_get places 0)) (matches-none text mark 0 is))
+found mark text (Some at) is = sym (ap (λ places. text_after_place mark text (slice_get places 0)) (matches-first text mark 0 at is.0 is.1))
 
 -- the part of a text from a place to its end
 pub to-end : (text : List ℕ) (at : ℕ) → take (length text - at) (drop at text) ≡ drop at text

@@ -1,7 +1,7 @@
 -- The office that a demo starts with, and the entries that it ends with.
 use Rattle.std.proofs.Common.{◌≡◌, ℕ, List, [], ◌∷◌, ◌++◌, length, Some, refl, sym, ap, subst, ◌∙◌}
 use Rattle.std.specs.Prelude.{slice_get, count_by, ◌-◌}
-use Rattle.lei_outside.specs.Keeping.{KeptTables, Stays, last_number, nothing_kept, number_of}
+use Rattle.lei_outside.specs.Keeping.{KeptTables, TablesStay, entry_number, last_number, nothing_kept}
 use Rattle.lei_outside.specs.Memory.{SureKeeperState, tables_of}
 use Rattle.lei_outside.specs.declared.entry.KeptEntry.{KeptEntry}
 use Rattle.register_history.specs.Damage.{IsDamage}
@@ -9,7 +9,7 @@ use Rattle.register_history.specs.Kept.{Keeps}
 use Rattle.register_history.specs.Legal.{Legal}
 use Rattle.register_words.specs.Limits.{standard}
 use Rattle.lei_office.specs.Offices.{IsRefused, keeper_back}
-use Rattle.register_history.specs.State.{OfficeState, office_of, opened}
+use Rattle.register_history.specs.State.{OfficeState, new_office, office_of}
 use Rattle.register_history.specs.declared.damage.Damage.{Damage}
 use Rattle.register_words.specs.declared.limits.Limits.{Limits}
 use Rattle.lei_office.specs.declared.opening.OpenFault.{OpenFault}
@@ -17,15 +17,15 @@ use Rattle.lei_office.specs.declared.opening.OpenFault.TheVariants.{StoreDamaged
 use Rattle.register_history.proofs.Excluding.{damage-excludes}
 use Rattle.lei_office.proofs.Leading.{legal-last}
 use Rattle.register_history.proofs.TableLemmas.{keeps-none}
-use Rattle.register_demo.specs.Marks.{rows_in}
+use Rattle.register_demo.specs.Marks.{row_count_in}
 use Rattle.register_demo.specs.Requests.{demo_requests, office_from}
-use Rattle.register_demo.specs.Session.{IsSummary, IsTold, is_made, is_told, text_of, texts_of, told_text}
+use Rattle.register_demo.specs.Session.{IsDemoTold, IsSummary, counted_text, has_text, is_publication_reply, text_in_reply, texts_of_replies}
 use Rattle.register_demo.specs.Summary.{delta_lines, lines_text, publication_lines, verdict_lines}
 use Rattle.register_demo.specs.declared.summary.Told.{Told}
 
 -- the office of a keeper that has nothing
 pub begins : (office : OfficeState) (old new : KeptTables) → office.limits ≡ standard → Keeps (Some new) office → new ≡ old → old.entries ≡ []
-    → office ≡ opened standard
+    → office ≡ new_office standard
 begins office old new limits keeps same none =
     ap (λ l. office_of l office.history) limits ∙ ap (office_of standard) (sym keeps.entries ∙ ap (λ t. t.entries) same ∙ none)
 
@@ -37,16 +37,16 @@ undamaged limits tables damage same is =
 
 -- a keeper in memory that has nothing is never reported as damaged
 pub never_damaged : (limits : Limits) (fault : OpenFault SureKeeperState) (old back : SureKeeperState) (damage : Damage) → fault ≡ StoreDamaged back damage
-    → IsRefused limits (λ k. Some (tables_of k)) fault → Stays (Some (tables_of old)) (Some (tables_of (keeper_back fault))) → tables_of old ≡ nothing_kept → ⊥
+    → IsRefused limits (λ k. Some (tables_of k)) fault → TablesStay (Some (tables_of old)) (Some (tables_of (keeper_back fault))) → tables_of old ≡ nothing_kept → ⊥
 never_damaged limits fault old back damage is refused stays none =
     undamaged limits (tables_of back) damage
-    (subst (λ f. Stays (Some (tables_of old)) (Some (tables_of (keeper_back f)))) is stays ∙ none)
+    (subst (λ f. TablesStay (Some (tables_of old)) (Some (tables_of (keeper_back f)))) is stays ∙ none)
     (subst (λ f. IsRefused limits (λ k. Some (tables_of k)) f) is refused)
 
 -- the number of a keeper's last entry is how many entries the office has
 pub ends : (office : OfficeState) (tables : KeptTables) → Keeps (Some tables) office → Legal office → last_number tables ≡ length office.history
 ends office tables keeps legal =
-    ap (λ entries. number_of (slice_get entries (length entries - 1))) keeps.entries ∙ legal-last office.limits office.history legal
+    ap (λ entries. entry_number (slice_get entries (length entries - 1))) keeps.entries ∙ legal-last office.limits office.history legal
 
 abbrev text-with : ℕ → List ℕ → ℕ → ℕ → List ℕ → ℕ → ℕ → ℕ → List ℕ
 text-with entries answers repeats publications published records relationships applied = lines_text (verdict_lines entries answers
@@ -60,20 +60,20 @@ all-same e e' a a' r r' p p' s s' x x' y y' z i j k l m n o =
     ∙ ap (λ v. text-with e' a' r' p' s' x' v z) o
 
 -- the summary of what the replies say
-pub summed : (n entries : ℕ) (from after : OfficeState) (told : Told) (text : List ℕ) → from ≡ opened standard → IsTold n from after told
-    → entries ≡ length after.history → text ≡ told_text entries told → IsSummary n text
+pub summed : (n entries : ℕ) (from after : OfficeState) (told : Told) (text : List ℕ) → from ≡ new_office standard → IsDemoTold n from after told
+    → entries ≡ length after.history → text ≡ counted_text entries told → IsSummary n text
 summed n entries from after told text first was count printed =
-    let F : OfficeState → Type 0 = λ office. IsTold n office after told in
-    let is : IsTold n (opened standard) after told = subst F first was in
+    let F : OfficeState → Type 0 = λ office. IsDemoTold n office after told in
+    let is : IsDemoTold n (new_office standard) after told = subst F first was in
     let r = is.replies in
     record {
       told = r;
       are = is.are;
       applied = told.applied;
       applied_is = is.applied;
-      text_is = printed ∙ all-same entries (length (office_from (opened standard) 0 (demo_requests n)).history) told.answers.items
-          (texts_of (r.records ++ r.relationships)) told.repeats (count_by is_told r.repeats) told.publications
-          (count_by is_made (r.first_publication ∷ r.second_publication ∷ [])) told.published (text_of r.second_publication) told.records
-          (rows_in (text_of r.lei_delta)) told.relationships (rows_in (text_of r.rr_delta)) told.applied
+      text_is = printed ∙ all-same entries (length (office_from (new_office standard) 0 (demo_requests n)).history) told.answers.items
+          (texts_of_replies (r.records ++ r.relationships)) told.repeats (count_by has_text r.repeats) told.publications
+          (count_by is_publication_reply (r.first_publication ∷ r.second_publication ∷ [])) told.published (text_in_reply r.second_publication) told.records
+          (row_count_in (text_in_reply r.lei_delta)) told.relationships (row_count_in (text_in_reply r.rr_delta)) told.applied
           (count ∙ ap (λ office. length office.history) is.leads) is.answers is.repeats is.publications is.published is.records is.relationships;
     }

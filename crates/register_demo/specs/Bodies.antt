@@ -8,15 +8,15 @@ use Rattle.register_demo.specs.declared.plan.Group.{Group}
 use Rattle.register_demo.specs.declared.plan.Group.TheVariants.{Records, Relationships}
 
 -- the members of an object, each a name and a text, and the object's end
-abbrev pub members : List (Text × Text) → Text
-members [] = codes "}"
-members ((name, text) ∷ []) = codes "\"" ++ (name ++ (codes "\":\"" ++ (text ++ codes "\"}")))
-members ((name, text) ∷ next ∷ fields) =
-    codes "\"" ++ (name ++ (codes "\":\"" ++ (text ++ (codes "\"," ++ members (next ∷ fields)))))
+abbrev pub member_texts : List (Text × Text) → Text
+member_texts [] = codes "}"
+member_texts ((name, text) ∷ []) = codes "\"" ++ (name ++ (codes "\":\"" ++ (text ++ codes "\"}")))
+member_texts ((name, text) ∷ next ∷ fields) =
+    codes "\"" ++ (name ++ (codes "\":\"" ++ (text ++ (codes "\"," ++ member_texts (next ∷ fields)))))
 
 -- an object of texts under names
 abbrev pub object_text : List (Text × Text) → Text
-object_text fields = codes "{" ++ members fields
+object_text fields = codes "{" ++ member_texts fields
 
 -- the elements of an array, separated by commas
 abbrev pub elements : List Text → Text
@@ -69,10 +69,10 @@ fields_of_relationship start parent manager =
     ∷ []
 
 -- The item of a number: the record of this number, or the relationship from it to the record of half the number.
-abbrev pub item_text : Group → Lei → ℕ → Text
-item_text Records manager i =
+abbrev pub demo_item_text : Group → Lei → ℕ → Text
+demo_item_text Records manager i =
     object_text (fields_of_record (decimal i) (decimal (authority_id i)) (demo_code i) manager)
-item_text Relationships manager i = object_text
+demo_item_text Relationships manager i = object_text
     (fields_of_relationship (demo_code i) (demo_code (i / 2)) manager)
 
 -- the start of a body
@@ -88,5 +88,5 @@ from_to first last = range_with_len first (last + 1 - first)
 unfoldable pub block_body : Group → ℕ → ℕ → Body
 block_body group n block =
     opening group ++ (elements
-    (map (item_text group (manager block)) (from_to (first_item group block) (last_item n block)))
+    (map (demo_item_text group (manager block)) (from_to (first_item group block) (last_item n block)))
     ++ codes "]}")

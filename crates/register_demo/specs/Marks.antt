@@ -9,18 +9,18 @@ abbrev pub times : Text → Text → ℕ
 times mark text = length (matches text mark 0)
 
 -- the text after a mark at this place; empty if there is no place
-abbrev pub behind_place : Text → Text → Option ℕ → Text
-behind_place mark text None = []
-behind_place mark text (Some at) = drop (at + length mark) text
+abbrev pub text_after_place : Text → Text → Option ℕ → Text
+text_after_place mark text None = []
+text_after_place mark text (Some at) = drop (at + length mark) text
 
 -- the text after the first place of a mark
-abbrev pub behind : Text → Text → Text
-behind mark text = behind_place mark text (slice_get (matches text mark 0) 0)
+abbrev pub text_after : Text → Text → Text
+text_after mark text = text_after_place mark text (slice_get (matches text mark 0) 0)
 
 -- the decimal digits that follow this place
-abbrev pub digits_behind : Text → Text → Text
-digits_behind mark text = take_while is_ascii_digit (behind mark text)
+abbrev pub digits_after : Text → Text → Text
+digits_after mark text = take_while is_ascii_digit (text_after mark text)
 
 -- how many rows a CSV file has: one for each line after the head
-abbrev pub rows_in : Text → ℕ
-rows_in text = count_by (λ c. c == 10) text - 1
+abbrev pub row_count_in : Text → ℕ
+row_count_in text = count_by (λ c. c == 10) text - 1

@@ -18,8 +18,8 @@ use Rattle.register_demo.specs.declared.plan.Group.{Group}
 use Rattle.register_demo.specs.declared.plan.Group.TheVariants.{Records, Relationships}
 
 -- the upload of the records of a block, or of the relationships that start at them
-abbrev pub upload_of : Group → ℕ → ℕ → Request
-upload_of group n block =
+abbrev pub demo_upload : Group → ℕ → ℕ → Request
+demo_upload group n block =
     Upload (record {
       office = manager block;
       number = upload_number group n block;
@@ -29,7 +29,7 @@ upload_of group n block =
 
 -- the uploads of this many blocks, starting with this one
 abbrev pub uploads_from : Group → ℕ → ℕ → ℕ → List Request
-uploads_from group n block count = map (upload_of group n) (range_with_len block count)
+uploads_from group n block count = map (demo_upload group n) (range_with_len block count)
 
 -- the uploads of all blocks
 abbrev pub uploads_of : Group → ℕ → List Request
@@ -48,16 +48,16 @@ abbrev pub second_publication : List Request
 second_publication = Publish 2 ∷ []
 
 -- the moment of the request that follows this many others: 2025-01-01T00:00:00Z, and a second later for each of them
-abbrev pub moment_behind : ℕ → ℤ
-moment_behind count = pos (1_735_689_600 + count)
+abbrev pub request_moment : ℕ → ℤ
+request_moment count = pos (1_735_689_600 + count)
 
 -- the moments of requests, the first of which follows this many others
-abbrev pub moments_of : ℕ → List Request → List ℤ
-moments_of count requests = map moment_behind (range_with_len count (length requests))
+abbrev pub request_moments : ℕ → List Request → List ℤ
+request_moments count requests = map request_moment (range_with_len count (length requests))
 
 -- what an office replies to requests, the first of which follows this many others
 abbrev pub replies_from : OfficeState → ℕ → List Request → List Reply
-replies_from office count requests = replies_to office (map Ask requests) (moments_of count requests)
+replies_from office count requests = replies_to office (map Ask requests) (request_moments count requests)
 
 -- the office after requests that come at these moments
 abbrev pub office_after : OfficeState → List Request → List ℤ → OfficeState
@@ -67,10 +67,10 @@ office_after office (request ∷ requests) (m ∷ moments) = office_after (next 
 
 -- the office after requests, the first of which follows this many others
 abbrev pub office_from : OfficeState → ℕ → List Request → OfficeState
-office_from office count requests = office_after office requests (moments_of count requests)
+office_from office count requests = office_after office requests (request_moments count requests)
 
 -- These are the replies to requests, the first of which follows this many others, and this is the office after them.
-pub record Answers (office : OfficeState) (count : ℕ) (requests : List Request) (replies : List Reply)
+pub record RepliesFrom (office : OfficeState) (count : ℕ) (requests : List Request) (replies : List Reply)
     (after : OfficeState) : Type 0 where
   pub told : replies ≡ replies_from office count requests
   pub leads : after ≡ office_from office count requests

@@ -9,31 +9,31 @@ use Rattle.register_words.specs.declared.reply.Reply.{Reply}
 use Rattle.register_words.specs.declared.reply.Reply.TheVariants as replies
 use Rattle.register_history.specs.Legal.{Legal}
 use Rattle.register_words.specs.Limits.{standard}
-use Rattle.register_history.specs.State.{OfficeState, opened}
+use Rattle.register_history.specs.State.{OfficeState, new_office}
 use Rattle.register_words.specs.Refusals.{reply_status_code}
-use Rattle.register_demo.specs.Marks.{rows_in}
+use Rattle.register_demo.specs.Marks.{row_count_in}
 use Rattle.register_demo.specs.Plan.{block_count}
-use Rattle.register_demo.specs.Requests.{Answers, accreditations, deltas, demo_requests, first_publication, office_from, replies_from, second_publication, uploads_of}
+use Rattle.register_demo.specs.Requests.{RepliesFrom, accreditations, deltas, demo_requests, first_publication, office_from, replies_from, second_publication, uploads_of}
 use Rattle.register_demo.specs.Summary.{delta_lines, lines_text, publication_lines, verdict_lines}
 use Rattle.register_demo.specs.declared.plan.Group.TheVariants.{Records, Relationships}
 use Rattle.register_demo.specs.declared.summary.Told.{Told}
 
 -- the text of a reply, which is empty for a refusal
-abbrev pub text_of : Reply → Text
-text_of (replies.Text code kind text) = text
-text_of (replies.Words refusal) = []
+abbrev pub text_in_reply : Reply → Text
+text_in_reply (replies.Text code kind text) = text
+text_in_reply (replies.Words refusal) = []
 
 -- the reply has a text, with the status code 200
-abbrev pub is_told : Reply → Bool
-is_told reply = reply_status_code reply == 200
+abbrev pub has_text : Reply → Bool
+has_text reply = reply_status_code reply == 200
 
 -- a publication was made: the status code is 201
-abbrev pub is_made : Reply → Bool
-is_made reply = reply_status_code reply == 201
+abbrev pub is_publication_reply : Reply → Bool
+is_publication_reply reply = reply_status_code reply == 201
 
 -- the texts of replies, one after the other
-abbrev pub texts_of : List Reply → Text
-texts_of replies = flat_map text_of replies
+abbrev pub texts_of_replies : List Reply → Text
+texts_of_replies replies = flat_map text_in_reply replies
 
 -- ---- the replies, step by step
 
@@ -54,8 +54,8 @@ pub record DemoReplies : Type 0 where
   pub rr_delta : Reply
 
 -- all of them, in order
-abbrev pub in_order : DemoReplies → List Reply
-in_order told =
+abbrev pub replies_in_order : DemoReplies → List Reply
+replies_in_order told =
     (told.first_issuer ∷ told.second_issuer ∷ [])
     ++ (told.records ++ ((told.first_publication ∷ told.lei_copy ∷ told.rr_copy ∷ [])
     ++ (told.relationships ++
@@ -64,21 +64,21 @@ in_order told =
 -- These are the replies of an office to the requests that make a register of n records. There is one to each upload of
 -- a block, and all of them are in the order of the requests.
 pub record AreReplies (office : OfficeState) (n : ℕ) (told : DemoReplies) : Type 0 where
-  pub all : in_order told ≡ replies_from office 0 (demo_requests n)
+  pub all : replies_in_order told ≡ replies_from office 0 (demo_requests n)
   pub records : length told.records ≡ block_count n
   pub relationships : length told.relationships ≡ block_count n
   pub repeats : length told.repeats ≡ block_count n
 
 -- how many bytes the patched copy has, or 0 if there is none
-abbrev pub size_of : Result Text ApplyFault → ℕ
-size_of (Ok bytes) = length bytes
-size_of (Err fault) = 0
+abbrev pub patched_size : Result Text ApplyFault → ℕ
+patched_size (Ok bytes) = length bytes
+patched_size (Err fault) = 0
 
 -- this is the size in bytes of the answer when the delta of relationships is applied to their copy
 pub record IsPatchedSize (copy delta : Text) (size : ℕ) : Type 0 where
   pub answer : Result Text ApplyFault
   pub is : IsAnswer copy delta Rr Csv answer
-  pub size_is : size ≡ size_of answer
+  pub size_is : size ≡ patched_size answer
 
 -- how many entries an office has after the requests that make a register of n records
 abbrev pub entries_after : OfficeState → ℕ → ℕ
@@ -90,20 +90,20 @@ entries_after office n = length (office_from office 0 (demo_requests n)).history
 -- the answers to the uploads of records and of relationships, without the repeats.
 abbrev pub summary_text : OfficeState → ℕ → DemoReplies → ℕ → Text
 summary_text office n told applied = lines_text (
-    verdict_lines (entries_after office n) (texts_of (told.records ++ told.relationships))
-    ++ (publication_lines (count_by is_told told.repeats)
-    (count_by is_made (told.first_publication ∷ told.second_publication ∷ []))
-    (text_of told.second_publication)
-    ++ delta_lines (rows_in (text_of told.lei_delta)) (rows_in (text_of told.rr_delta)) applied))
+    verdict_lines (entries_after office n) (texts_of_replies (told.records ++ told.relationships))
+    ++ (publication_lines (count_by has_text told.repeats)
+    (count_by is_publication_reply (told.first_publication ∷ told.second_publication ∷ []))
+    (text_in_reply told.second_publication)
+    ++ delta_lines (row_count_in (text_in_reply told.lei_delta)) (row_count_in (text_in_reply told.rr_delta)) applied))
 
 -- The text is the summary of a register of n records, made by an office that had no entries before and has the standard
 -- limits.
 pub record IsSummary (n : ℕ) (text : Text) : Type 0 where
   pub told : DemoReplies
-  pub are : AreReplies (opened standard) n told
+  pub are : AreReplies (new_office standard) n told
   pub applied : ℕ
-  pub applied_is : IsPatchedSize (text_of told.rr_copy) (text_of told.rr_delta) applied
-  pub text_is : text ≡ summary_text (opened standard) n told applied
+  pub applied_is : IsPatchedSize (text_in_reply told.rr_copy) (text_in_reply told.rr_delta) applied
+  pub text_is : text ≡ summary_text (new_office standard) n told applied
 
 -- ---- the parts of a session
 
@@ -114,47 +114,47 @@ pub record MakesRecords (n : ℕ) (office after : OfficeState) (old new : Text)
   pub second : Reply
   pub records : List Reply
   pub lei_copy : Reply
-  pub answers : Answers office 0 (accreditations ++ (uploads_of Records n ++ first_publication))
+  pub answers : RepliesFrom office 0 (accreditations ++ (uploads_of Records n ++ first_publication))
       ((first ∷ second ∷ []) ++ (records ++ (publication ∷ lei_copy ∷ copy ∷ []))) after
   pub each : length records ≡ block_count n
-  pub texts : new ≡ old ++ texts_of records
+  pub texts : new ≡ old ++ texts_of_replies records
 
 -- The relationships were sent and published, with this reply.
 pub record MakesRelationships (n : ℕ) (office after : OfficeState) (old new : Text)
     (publication : Reply) : Type 0 where
   pub relationships : List Reply
-  pub answers : Answers office (block_count n + 5) (uploads_of Relationships n ++ second_publication)
+  pub answers : RepliesFrom office (block_count n + 5) (uploads_of Relationships n ++ second_publication)
       (relationships ++ (publication ∷ [])) after
   pub each : length relationships ≡ block_count n
-  pub texts : new ≡ old ++ texts_of relationships
+  pub texts : new ≡ old ++ texts_of_replies relationships
 
 -- The records were sent once more, and this many of the replies have the status code 200. Then these deltas were asked
 -- for.
 pub record Repeats (n : ℕ) (office after : OfficeState) (told : ℕ) (lei_delta rr_delta : Reply) : Type 0 where
   pub replies : List Reply
-  pub answers : Answers office (2 * block_count n + 6) (uploads_of Records n ++ deltas)
+  pub answers : RepliesFrom office (2 * block_count n + 6) (uploads_of Records n ++ deltas)
       (replies ++ (lei_delta ∷ rr_delta ∷ [])) after
   pub each : length replies ≡ block_count n
-  pub count : told ≡ count_by is_told replies
+  pub count : told ≡ count_by has_text replies
   pub legal : Legal after
 
 -- What the replies say about a register that an office made.
-pub record IsTold (n : ℕ) (office after : OfficeState) (told : Told) : Type 0 where
+pub record IsDemoTold (n : ℕ) (office after : OfficeState) (told : Told) : Type 0 where
   pub replies : DemoReplies
   pub are : AreReplies office n replies
   pub leads : after ≡ office_from office 0 (demo_requests n)
   pub legal : Legal after
-  pub answers : told.answers.items ≡ texts_of (replies.records ++ replies.relationships)
-  pub repeats : told.repeats ≡ count_by is_told replies.repeats
+  pub answers : told.answers.items ≡ texts_of_replies (replies.records ++ replies.relationships)
+  pub repeats : told.repeats ≡ count_by has_text replies.repeats
   pub publications : told.publications
-      ≡ count_by is_made (replies.first_publication ∷ replies.second_publication ∷ [])
-  pub published : told.published ≡ text_of replies.second_publication
-  pub records : told.records ≡ rows_in (text_of replies.lei_delta)
-  pub relationships : told.relationships ≡ rows_in (text_of replies.rr_delta)
-  pub applied : IsPatchedSize (text_of replies.rr_copy) (text_of replies.rr_delta) told.applied
+      ≡ count_by is_publication_reply (replies.first_publication ∷ replies.second_publication ∷ [])
+  pub published : told.published ≡ text_in_reply replies.second_publication
+  pub records : told.records ≡ row_count_in (text_in_reply replies.lei_delta)
+  pub relationships : told.relationships ≡ row_count_in (text_in_reply replies.rr_delta)
+  pub applied : IsPatchedSize (text_in_reply replies.rr_copy) (text_in_reply replies.rr_delta) told.applied
 
 -- the summary of a register with this many entries, about which the replies say this
-abbrev pub told_text : ℕ → Told → Text
-told_text entries told = lines_text (verdict_lines entries told.answers.items
+abbrev pub counted_text : ℕ → Told → Text
+counted_text entries told = lines_text (verdict_lines entries told.answers.items
     ++ (publication_lines told.repeats told.publications told.published
     ++ delta_lines told.records told.relationships told.applied))

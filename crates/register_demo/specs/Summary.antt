@@ -1,15 +1,15 @@
 -- The summary of a made-up register: lines of a name, a space and a number.
 use Rattle.std.specs.Prelude.{ℕ, List, [], ◌∷◌, ◌++◌, codes, decimal, flat_map}
 use Rattle.lei_code.specs.Texts.{Text}
-use Rattle.register_demo.specs.Marks.{digits_behind, times}
+use Rattle.register_demo.specs.Marks.{digits_after, times}
 
 -- a line of a name and a number
-abbrev pub line : Text × Text → Text
-line (name, number) = name ++ (codes " " ++ (number ++ codes "\n"))
+abbrev pub summary_line : Text × Text → Text
+summary_line (name, number) = name ++ (codes " " ++ (number ++ codes "\n"))
 
 -- the lines of some names and numbers
 abbrev pub lines_text : List (Text × Text) → Text
-lines_text lines = flat_map line lines
+lines_text lines = flat_map summary_line lines
 
 -- What is counted: the entries of the register, and in the answers to uploads the accepted items and the items that
 -- each of three checks rejected.
@@ -28,8 +28,8 @@ abbrev pub publication_lines : ℕ → ℕ → Text → List (Text × Text)
 publication_lines repeats publications answer =
     (codes "repeats", decimal repeats)
     ∷ (codes "publications", decimal publications)
-    ∷ (codes "lei", digits_behind (codes "\"lei\":") answer)
-    ∷ (codes "rr", digits_behind (codes "\"rr\":") answer)
+    ∷ (codes "lei", digits_after (codes "\"lei\":") answer)
+    ∷ (codes "rr", digits_after (codes "\"rr\":") answer)
     ∷ []
 
 -- How many rows the deltas have, and how many bytes the patched copy has.

@@ -1,11 +1,11 @@
 //! Puts requests to an office, one after the other.
 ghost use Rattle.std.specs.Prelude.{◌≡◌, ◌↔◌, ◌≤◌, ◌+◌, ◌-◌, ◌++◌, count_by, IfOk, IsTrue, OnOk};
 ghost use Rattle.register_history.specs.Legal.{Legal};
-ghost use Rattle.register_words.specs.Requests.{IsNumbered};
+ghost use Rattle.register_words.specs.Requests.{HasNumberInRange};
 ghost use Rattle.register_history.specs.Replies.{next, reply};
 ghost use Rattle.register_demo.specs.Plan.{block_count};
-ghost use Rattle.register_demo.specs.Requests.{moment_behind, office_from, replies_from, upload_of, uploads_of};
-ghost use Rattle.register_demo.specs.Session.{is_told, text_of, texts_of};
+ghost use Rattle.register_demo.specs.Requests.{demo_upload, office_from, replies_from, request_moment, uploads_of};
+ghost use Rattle.register_demo.specs.Session.{has_text, text_in_reply, texts_of_replies};
 
 use crate::bodies::block_body;
 use crate::codes::issuer_of;
@@ -20,8 +20,8 @@ use std::thread::Threads;
 const FIRST_MOMENT: i64 = 1_735_689_600;
 
 // The moment of the request that follows this many others.
-fn moment_behind(count: u32) -> Moment
-    ensures { result ≡ moment_behind count }
+fn request_moment(count: u32) -> Moment
+    ensures { result ≡ request_moment count }
 {
     match Moment::of(FIRST_MOMENT + i64::from(count)) {
         Some(moment) => moment,
@@ -31,7 +31,7 @@ fn moment_behind(count: u32) -> Moment
 
 /// The text of a reply, which is empty for a refusal.
 pub fn text_of(reply: &Reply) -> &[u8]
-    ensures { result.now ≡ text_of reply.now }
+    ensures { result.now ≡ text_in_reply reply.now }
 {
     match reply {
         Reply::Text { text, .. } => text.as_slice(),
@@ -45,8 +45,8 @@ fn upload_of(alloc: Global, group: Group, n: u32, block: u32) -> Result<Request,
     requires most { n ≤ 100_000 }
     requires counted { 1 ≤ block }
     requires within { block ≤ block_count n }
-    ensures value { IfOk result (λ request. request ≡ upload_of group n block) }
-    ensures numbered { IfOk result IsNumbered }
+    ensures value { IfOk result (λ request. request ≡ demo_upload group n block) }
+    ensures numbered { IfOk result HasNumberInRange }
 {
     let body = block_body(alloc, group, n, block)?;
     let number = upload_number(group, n, block);
@@ -64,14 +64,14 @@ pub fn ask<R: Threads + Sync>(
     request: &Request,
     count: u32,
 ) -> Result<Reply, NoMemory>
-    requires { IsNumbered request.now }
+    requires { HasNumberInRange request.now }
     ensures reply { IfOk result
-        (λ answered. answered ≡ reply office.old.office request.now (moment_behind count)) }
+        (λ answered. answered ≡ reply office.old.office request.now (request_moment count)) }
     ensures next { OnOk result
-        (office.new.office ≡ next office.old.office request.now (moment_behind count)) }
+        (office.new.office ≡ next office.old.office request.now (request_moment count)) }
     ensures legal { Legal office.new.office }
 {
-    let reply = office.answer(rt, request, moment_behind(count));
+    let reply = office.answer(rt, request, request_moment(count));
     if is_no_memory(&reply) {
         return Err(NoMemory);
     }
@@ -101,12 +101,12 @@ fn send_block<R: Threads + Sync>(
     requires counted { 1 ≤ block }
     requires within { block ≤ block_count uploads.n }
     ensures answers { OnOk result (answers.new.items ≡ answers.old.items
-        ++ text_of (reply office.old.office (upload_of uploads.group uploads.n block)
-        (moment_behind (uploads.count + block - 1)))) }
-    ensures told { IfOk result (λ told. told ≡ is_told (reply office.old.office
-        (upload_of uploads.group uploads.n block) (moment_behind (uploads.count + block - 1)))) }
+        ++ text_in_reply (reply office.old.office (demo_upload uploads.group uploads.n block)
+        (request_moment (uploads.count + block - 1)))) }
+    ensures told { IfOk result (λ told. told ≡ has_text (reply office.old.office
+        (demo_upload uploads.group uploads.n block) (request_moment (uploads.count + block - 1)))) }
     ensures office { OnOk result (office.new.office ≡ next office.old.office
-        (upload_of uploads.group uploads.n block) (moment_behind (uploads.count + block - 1))) }
+        (demo_upload uploads.group uploads.n block) (request_moment (uploads.count + block - 1))) }
 {
     let request = upload_of(alloc, uploads.group, uploads.n, block)?;
     let reply = ask(rt, office, &request, uploads.count + block - 1)?;
@@ -128,9 +128,10 @@ pub fn send_uploads<R: Threads + Sync, W: Sink>(
     requires most { uploads.n ≤ 100_000 }
     requires few { uploads.count ≤ 10_000 }
     ensures answers { OnOk result (answers.new.items ≡ answers.old.items
-        ++ texts_of (replies_from office.old.office uploads.count (uploads_of uploads.group uploads.n))) }
+        ++ texts_of_replies (replies_from office.old.office uploads.count
+        (uploads_of uploads.group uploads.n))) }
     ensures told { IfOk result (λ told. told
-        ≡ count_by is_told (replies_from office.old.office uploads.count
+        ≡ count_by has_text (replies_from office.old.office uploads.count
         (uploads_of uploads.group uploads.n))) }
     ensures office { OnOk result (office.new.office
         ≡ office_from office.old.office uploads.count (uploads_of uploads.group uploads.n)) }

@@ -1,6 +1,6 @@
 //! Builds the bodies of the uploads.
 ghost use Rattle.std.specs.Prelude.{◌≡◌, ◌≤◌, ◌++◌, decimal, flat_map, map, IfOk, OnOk};
-ghost use Rattle.register_demo.specs.Bodies.{authority_id, block_body, elements, from_to, item_text, opening};
+ghost use Rattle.register_demo.specs.Bodies.{authority_id, block_body, demo_item_text, elements, from_to, opening};
 ghost use Rattle.register_demo.specs.Plan.{block_count};
 
 use crate::codes::{manager, put_code};
@@ -110,7 +110,7 @@ fn put_names(out: &mut Vec<u8>, i: u32) -> Result<(), NoMemory>
 
 // Appends the record of a number.
 fn put_record(out: &mut Vec<u8>, manager: &str, i: u32) -> Result<(), NoMemory>
-    ensures { OnOk result (out.new.items ≡ out.old.items ++ item_text Group.Records manager.now i) }
+    ensures { OnOk result (out.new.items ≡ out.old.items ++ demo_item_text Group.Records manager.now i) }
 {
     put_names(out, i)?;
     put_code(out, i)?;
@@ -120,7 +120,8 @@ fn put_record(out: &mut Vec<u8>, manager: &str, i: u32) -> Result<(), NoMemory>
 
 // Appends the relationship that starts at the record of a number.
 fn put_relationship(out: &mut Vec<u8>, manager: &str, i: u32) -> Result<(), NoMemory>
-    ensures { OnOk result (out.new.items ≡ out.old.items ++ item_text Group.Relationships manager.now i) }
+    ensures { OnOk result (out.new.items ≡ out.old.items
+        ++ demo_item_text Group.Relationships manager.now i) }
 {
     put_all(out, &[TO_MANAGER, manager, TO_PARENT])?;
     put_code(out, i / 2)?;
@@ -132,7 +133,7 @@ fn put_relationship(out: &mut Vec<u8>, manager: &str, i: u32) -> Result<(), NoMe
 
 // Appends the item of a number.
 fn put_item(out: &mut Vec<u8>, group: Group, manager: &str, i: u32) -> Result<(), NoMemory>
-    ensures { OnOk result (out.new.items ≡ out.old.items ++ item_text group manager.now i) }
+    ensures { OnOk result (out.new.items ≡ out.old.items ++ demo_item_text group manager.now i) }
 {
     match group {
         Group::Records => put_record(out, manager, i),
@@ -150,7 +151,7 @@ fn put_items(
 ) -> Result<(), NoMemory>
     requires { first ≤ last }
     ensures { OnOk result (out.new.items
-        ≡ out.old.items ++ elements (map (item_text group manager.now) (from_to first last))) }
+        ≡ out.old.items ++ elements (map (demo_item_text group manager.now) (from_to first last))) }
 {
     for i in first..last {
         put_item(out, group, manager, i)?;

@@ -1,6 +1,6 @@
 //! Reads numbers from texts.
 ghost use Rattle.std.specs.Prelude.{◌≡◌, ◌≤◌, ◌+◌, length};
-ghost use Rattle.register_demo.specs.Marks.{behind, digits_behind, rows_in, times};
+ghost use Rattle.register_demo.specs.Marks.{digits_after, row_count_in, text_after, times};
 
 use memchr::{memchr_iter, memmem};
 
@@ -13,8 +13,8 @@ pub fn times(mark: &[u8], text: &[u8]) -> usize
 }
 
 // The text after the first place of a mark, which is empty if the mark doesn't occur.
-fn behind<'a>(mark: &[u8], text: &'a [u8]) -> &'a [u8]
-    ensures { result.now ≡ behind mark.now text.now }
+fn text_after<'a>(mark: &[u8], text: &'a [u8]) -> &'a [u8]
+    ensures { result.now ≡ text_after mark.now text.now }
 {
     match memmem::find(text, mark) {
         Some(at) => &text[at + mark.len()..],
@@ -23,10 +23,10 @@ fn behind<'a>(mark: &[u8], text: &'a [u8]) -> &'a [u8]
 }
 
 /// The decimal digits that follow the first place of a mark.
-pub fn digits_behind<'a>(mark: &[u8], text: &'a [u8]) -> &'a [u8]
-    ensures { result.now ≡ digits_behind mark.now text.now }
+pub fn digits_after<'a>(mark: &[u8], text: &'a [u8]) -> &'a [u8]
+    ensures { result.now ≡ digits_after mark.now text.now }
 {
-    let rest = behind(mark, text);
+    let rest = text_after(mark, text);
     let mut end = 0;
     while end < rest.len() && rest[end].is_ascii_digit() {
         end += 1;
@@ -36,7 +36,7 @@ pub fn digits_behind<'a>(mark: &[u8], text: &'a [u8]) -> &'a [u8]
 
 /// How many rows a CSV file has, without its head.
 pub fn rows_in(text: &[u8]) -> usize
-    ensures { result ≡ rows_in text.now }
+    ensures { result ≡ row_count_in text.now }
 {
     memchr_iter(b'\n', text).count().saturating_sub(1)
 }

@@ -3,8 +3,8 @@ ghost use Rattle.std.specs.Prelude.{◌≡◌, ◌≤◌, ◌+◌, ◌*◌, ◌�
 ghost use Rattle.register_history.specs.Legal.{Legal};
 ghost use Rattle.register_words.specs.declared.reply.Reply.{Reply as Answer};
 ghost use Rattle.register_demo.specs.Plan.{block_count};
-ghost use Rattle.register_demo.specs.Requests.{Answers, accreditations, deltas, first_publication};
-ghost use Rattle.register_demo.specs.Session.{IsPatchedSize, IsTold, MakesRecords, MakesRelationships, Repeats, is_made, text_of};
+ghost use Rattle.register_demo.specs.Requests.{RepliesFrom, accreditations, deltas, first_publication};
+ghost use Rattle.register_demo.specs.Session.{IsDemoTold, IsPatchedSize, MakesRecords, MakesRelationships, Repeats, is_publication_reply, text_in_reply};
 
 use crate::asking::{ask, send_uploads, text_of};
 use crate::codes::issuer_of;
@@ -21,7 +21,7 @@ use std::thread::Threads;
 // Accredits the two issuers.
 fn accredit<R: Threads + Sync>(rt: &R, office: &mut Office<SureKeeper>) -> Result<(), NoMemory>
     ensures { OnOk result ((first : Answer) × (second : Answer)
-        × Answers office.old.office 0 accreditations (first ∷ second ∷ []) office.new.office) }
+        × RepliesFrom office.old.office 0 accreditations (first ∷ second ∷ []) office.new.office) }
 {
     ask(rt, office, &Request::Accredit(issuer_of(1)), 0)?;
     ask(rt, office, &Request::Accredit(issuer_of(2)), 1)?;
@@ -37,7 +37,8 @@ fn publish_records<R: Threads + Sync>(
 ) -> Result<(Reply, Reply), NoMemory>
     requires { count ≤ 10_000 }
     ensures { IfOk result (λ told. (lei : Answer)
-        × Answers office.old.office count first_publication (told.0 ∷ lei ∷ told.1 ∷ []) office.new.office) }
+        × RepliesFrom office.old.office count first_publication
+        (told.0 ∷ lei ∷ told.1 ∷ []) office.new.office) }
 {
     let published = ask(rt, office, &Request::Publish(1), count)?;
     ask(rt, office, &Request::Copy(Sheet::Lei, Form::Csv), count + 1)?;
@@ -53,7 +54,7 @@ fn ask_for_deltas<R: Threads + Sync>(
 ) -> Result<(Reply, Reply), NoMemory>
     requires { count ≤ 10_000 }
     ensures answers { IfOk result
-        (λ told. Answers office.old.office count deltas (told.0 ∷ told.1 ∷ []) office.new.office) }
+        (λ told. RepliesFrom office.old.office count deltas (told.0 ∷ told.1 ∷ []) office.new.office) }
     ensures legal { OnOk result (Legal office.new.office) }
 {
     let base = Base::Number(1);
@@ -163,7 +164,7 @@ fn patched_size(alloc: Global, copy: &[u8], delta: &[u8]) -> Result<usize, NoMem
 
 // How many publications a reply says were made: 1 or none.
 fn made(reply: &Reply) -> u32
-    ensures value { result ≡ cond (is_made reply.now) 1 0 }
+    ensures value { result ≡ cond (is_publication_reply reply.now) 1 0 }
     ensures most { result ≤ 1 }
 {
     u32::from(reply.status_code() == 201)
@@ -179,7 +180,7 @@ pub fn make<R: Threads + Sync, W: Sink>(
 ) -> Result<Told, NoMemory>
     requires least { 2 ≤ n }
     requires most { n ≤ 100_000 }
-    ensures told { IfOk result (IsTold n office.old.office office.new.office) }
+    ensures told { IfOk result (IsDemoTold n office.old.office office.new.office) }
     ensures same { out.new ≡ out.old }
 {
     let mut answers = Vec::new(alloc);

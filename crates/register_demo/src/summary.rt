@@ -2,7 +2,7 @@
 ghost use Rattle.std.specs.Prelude.{◌≡◌, ◌++◌, ◌∷◌, [], decimal, IfOk, OnOk};
 ghost use Rattle.register_demo.specs.Summary.{delta_lines, lines_text, publication_lines, verdict_lines};
 
-use crate::marks::{digits_behind, times};
+use crate::marks::{digits_after, times};
 use itoa::Buffer;
 use lei_outside::{Bytes, NoMemory};
 use std::alloc::Global;
@@ -69,8 +69,8 @@ fn put_publications(
 {
     put_number(out, "repeats", u64::from(repeats))?;
     put_number(out, "publications", u64::from(publications))?;
-    put_digits(out, "lei", digits_behind(b"\"lei\":", answer))?;
-    put_digits(out, "rr", digits_behind(b"\"rr\":", answer))?;
+    put_digits(out, "lei", digits_after(b"\"lei\":", answer))?;
+    put_digits(out, "rr", digits_after(b"\"rr\":", answer))?;
     Ok(())
 }
 

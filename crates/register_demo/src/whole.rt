@@ -3,8 +3,8 @@ ghost use Rattle.std.specs.Prelude.{◌≡◌, ◌≤◌, IfOk};
 ghost use Rattle.lei_outside.specs.Keeping.{last_number};
 ghost use Rattle.lei_outside.specs.Memory.{tables_of};
 ghost use Rattle.register_words.specs.Limits.{standard};
-ghost use Rattle.register_history.specs.State.{opened};
-ghost use Rattle.register_demo.specs.Session.{IsSummary, told_text};
+ghost use Rattle.register_history.specs.State.{new_office};
+ghost use Rattle.register_demo.specs.Session.{IsSummary, counted_text};
 ghost use Rattle.register_demo.specs.declared.summary.Told.{Told as Found};
 
 use crate::session::make;
@@ -32,7 +32,7 @@ fn summary_with(
     told: Result<Told, NoMemory>,
 ) -> Result<Bytes, NoMemory>
     ensures { IfOk result (λ text. (found : Found) × (told ≡ Ok found)
-        × (text ≡ told_text (last_number (tables_of keeper)) found)) }
+        × (text ≡ counted_text (last_number (tables_of keeper)) found)) }
 {
     let told = told?;
     let entries = entries_in(keeper)?;
@@ -48,7 +48,7 @@ fn demo_by<R: Threads + Sync, W: Sink>(
     n: u32,
     out: &mut W,
 ) -> Result<Bytes, NoMemory>
-    requires opened { office.office ≡ opened standard }
+    requires opened { office.office ≡ new_office standard }
     requires least { 2 ≤ n }
     requires most { n ≤ 100_000 }
     ensures summary { IfOk result (IsSummary n) }

@@ -11,14 +11,14 @@ use Rattle.register_words.specs.declared.malformed.Malformed.{Malformed}
 use Rattle.lei_records.specs.declared.item.RawItem.{RawItem}
 use Rattle.upload_ledger.specs.History.{History, accredited, ahead, fresh, number_taken, Place, place, published, repeat_of, unknown_issuer}
 use Rattle.register_words.specs.declared.limits.Limits.{Limits}
-use Rattle.register_history.specs.Damage.{accreditation_in, asked_by, entry_line, is_lei, is_number, outcome_text, publication_in, replayed, request_in, request_text, upload_in}
+use Rattle.register_history.specs.Damage.{entry_line, expected_text, is_lei, is_number, replayed_text, request_in, request_text, stored_accreditation, stored_publication, stored_request, stored_upload}
 use Rattle.register_words.specs.declared.reply.Reply.{Reply}
 use Rattle.register_words.specs.declared.reply.Reply.TheVariants.{Words}
 use Rattle.register_words.specs.declared.reply.Refusal.TheVariants.{LedgerFull, TooLong}
 use Rattle.register_words.specs.declared.request.Call.{Call}
 use Rattle.register_words.specs.declared.request.Request.{Request}
 use Rattle.register_words.specs.declared.request.Request.TheVariants.{Accredit, Publish, Upload}
-use Rattle.register_history.specs.Legal.{IsNext, may_follow, request_of}
+use Rattle.register_history.specs.Legal.{IsNext, request_of, rules_may_follow}
 use Rattle.register_words.specs.Requests.{IsRequest, IsUploadNumber}
 use Rattle.register_history.specs.Replies.{accredit_outcome, accreditation, adds, body_outcome, is_full, is_too_much, outcome_at, outcome_by, place_outcome, stays, taken_upload, terms_by, upload_outcome}
 use Rattle.register_history.specs.State.{OfficeState, office_of}
@@ -110,8 +110,8 @@ moment_is : (seconds : ℤ) → IsMoment seconds → is_moment seconds ≡ true
 moment_is seconds is = grind (arith, ints)
 
 -- a next entry was made for the request that is read from it
-pub asked-next : (office : OfficeState) (e : KeptEntry) (next : IsNext office e) → asked_by office.history e ≡ Some next.0
-unfolding asked_by
+pub asked-next : (office : OfficeState) (e : KeptEntry) (next : IsNext office e) → stored_request office.history e ≡ Some next.0
+unfolding stored_request
 asked-next office e next =
     let of_moment = moment_is e.moment next.3 in
     rw (of_moment, next.4) (elim (of_kind e next.0 next.1) [
@@ -136,9 +136,9 @@ asked-next office e next =
 
 -- ---- what a replay makes
 
-pub asked-request : (before : History) (e : KeptEntry) (request : Request) → asked_by before e ≡ Some request → request_of e ≡ Some request
-unfolding asked_by
-asked-request before e request is = by_moment (is_moment e.moment && may_follow before e.rules) is
+pub asked-request : (before : History) (e : KeptEntry) (request : Request) → stored_request before e ≡ Some request → request_of e ≡ Some request
+unfolding stored_request
+asked-request before e request is = by_moment (is_moment e.moment && rules_may_follow before e.rules) is
   where
     of_upload : (b : Bool) → cond b (Some (Upload (call_of e))) None ≡ Some request → Some (Upload (call_of e)) ≡ Some request
     of_upload true found = found
@@ -152,7 +152,7 @@ asked-request before e request is = by_moment (is_moment e.moment && may_follow 
     of_publish true found = found
     of_publish false found = cc
 
-    by_kind : (one two three : Bool) → cond one (accreditation_in e) (cond two (upload_in e) (cond three (publication_in e) None)) ≡ Some request
+    by_kind : (one two three : Bool) → cond one (stored_accreditation e) (cond two (stored_upload e) (cond three (stored_publication e) None)) ≡ Some request
         → cond one (Some (Accredit e.office)) (cond two (Some (Upload (call_of e))) (cond three (Some (Publish e.number)) None)) ≡ Some request
     by_kind true two three found = of_accredit (is_lei e.office && e.number == 0 && length e.body == 0) found
     by_kind false true three found = of_upload (is_lei e.office && is_number e.number) found
@@ -164,9 +164,9 @@ asked-request before e request is = by_moment (is_moment e.moment && may_follow 
     by_moment false found = cc
 
 -- its rules may follow those of the entry before it
-pub asked-follows : (before : History) (e : KeptEntry) (request : Request) → asked_by before e ≡ Some request → may_follow before e.rules ≡ true
-unfolding asked_by
-asked-follows before e request is = by_tests (is_moment e.moment) (may_follow before e.rules) is
+pub asked-follows : (before : History) (e : KeptEntry) (request : Request) → stored_request before e ≡ Some request → rules_may_follow before e.rules ≡ true
+unfolding stored_request
+asked-follows before e request is = by_tests (is_moment e.moment) (rules_may_follow before e.rules) is
   where
     by_tests : (at follows : Bool) → cond (at && follows) (request_in e) None ≡ Some request → follows ≡ true
     by_tests true true found = refl
@@ -177,35 +177,35 @@ same_some : {X : Type 0} (x y : X) → Some x ≡ Some y → x ≡ y
 same_some x y is = cc
 
 -- an entry that belongs to no request
-pub none-asked : (office : OfficeState) (e : KeptEntry) → asked_by office.history e ≡ None → (IsNext office e → ⊥) × (codes "NOT_AN_ENTRY" ≡ replayed office e)
+pub none-asked : (office : OfficeState) (e : KeptEntry) → stored_request office.history e ≡ None → (IsNext office e → ⊥) × (codes "NOT_AN_ENTRY" ≡ replayed_text office e)
 none-asked office e none = (
   λ next. let bad : None ≡ Some next.0 = sym none ∙ asked-next office e next in cc,
   ap (request_text office e) (sym none),
 )
 
 -- the request is answered, and adds nothing
-pub stays-differs : (office : OfficeState) (e : KeptEntry) (request : Request) (answered : Reply) → asked_by office.history e ≡ Some request → outcome_by e.rules office request e.moment ≡ stays answered
-    → (IsNext office e → ⊥) × (reply_words answered ≡ replayed office e)
+pub stays-differs : (office : OfficeState) (e : KeptEntry) (request : Request) (answered : Reply) → stored_request office.history e ≡ Some request → outcome_by e.rules office request e.moment ≡ stays answered
+    → (IsNext office e → ⊥) × (reply_words answered ≡ replayed_text office e)
 stays-differs office e request answered asked is = (
   λ next.
       let same : request ≡ next.0 = same_some request next.0 (sym asked ∙ asked-next office e next) in
       let bad : stays answered ≡ adds e = sym is ∙ (ap (λ r. outcome_by e.rules office r e.moment) same ∙ next.5) in cc,
-  ap outcome_text (sym is) ∙ ap (request_text office e) (sym asked),
+  ap expected_text (sym is) ∙ ap (request_text office e) (sym asked),
 )
 
 -- it adds another entry
-pub adds-differs : (office : OfficeState) (e : KeptEntry) (request : Request) (made : KeptEntry) → asked_by office.history e ≡ Some request → outcome_by e.rules office request e.moment ≡ adds made → (made ≡ e → ⊥)
-    → (IsNext office e → ⊥) × (entry_line made ≡ replayed office e)
+pub adds-differs : (office : OfficeState) (e : KeptEntry) (request : Request) (made : KeptEntry) → stored_request office.history e ≡ Some request → outcome_by e.rules office request e.moment ≡ adds made → (made ≡ e → ⊥)
+    → (IsNext office e → ⊥) × (entry_line made ≡ replayed_text office e)
 adds-differs office e request made asked is other = (
   λ next.
       let same : request ≡ next.0 = same_some request next.0 (sym asked ∙ asked-next office e next) in
       let both : adds made ≡ adds e = sym is ∙ (ap (λ r. outcome_by e.rules office r e.moment) same ∙ next.5) in
       other (let one : made ≡ e = cc in one),
-  ap outcome_text (sym is) ∙ ap (request_text office e) (sym asked),
+  ap expected_text (sym is) ∙ ap (request_text office e) (sym asked),
 )
 
 -- it adds this entry
-pub adds-next : (office : OfficeState) (e : KeptEntry) (request : Request) (made : KeptEntry) → asked_by office.history e ≡ Some request → outcome_by e.rules office request e.moment ≡ adds made → made ≡ e
+pub adds-next : (office : OfficeState) (e : KeptEntry) (request : Request) (made : KeptEntry) → stored_request office.history e ≡ Some request → outcome_by e.rules office request e.moment ≡ adds made → made ≡ e
     → IsRequest request → IsMoment e.moment → IsNext office e
 adds-next office e request made asked is same of_request of_moment = (
   request,

@@ -7,7 +7,7 @@ use Rattle.upload_format.specs.Bodies.{upload}
 use Rattle.register_words.specs.declared.malformed.Malformed.{Malformed}
 use Rattle.register_words.specs.declared.malformed.Malformed.TheVariants.{NotJson, NotAnUpload, NoItems, TooManyItems}
 use Rattle.lei_records.specs.declared.item.RawItem.{RawItem}
-use Rattle.upload_ledger.specs.History.{History, Place, accredited, ahead, fresh, is_accreditation_of, is_publication, is_upload_of, last, next_number, number_taken, numbered, place, place_of_taken, publications, published, repeat_of, unknown_issuer, upload_at, uploads}
+use Rattle.upload_ledger.specs.History.{History, Place, accredited, ahead, entry_numbered, fresh, is_accreditation_of, is_publication, is_upload_of, last, next_number, number_taken, place, place_of_taken, publications, published, repeat_of, unknown_issuer, upload_at, uploads}
 use Rattle.answer_texts.specs.Answers.{accreditation_text, publication_text, upload_text}
 use Rattle.register_words.specs.declared.limits.Limits.{Limits}
 use Rattle.register_words.specs.declared.reply.Refusal.{Refusal}
@@ -80,8 +80,8 @@ get-apart (e ∷ history) zero apart = apart.0
 get-apart (e ∷ history) (suc place) apart = get-apart history place apart.1
 
 -- the entry with a number
-numbered-apart : (entries : History) (number : ℕ) → AreApart entries → EntryApart (numbered entries number)
-numbered-apart entries number apart = elim (number == 0) as (λ b. EntryApart (cond b None (slice_get entries (number - 1)))) [
+entry_numbered-apart : (entries : History) (number : ℕ) → AreApart entries → EntryApart (entry_numbered entries number)
+entry_numbered-apart entries number apart = elim (number == 0) as (λ b. EntryApart (cond b None (slice_get entries (number - 1)))) [
   | true ↦ tt
   | false ↦ get-apart entries (number - 1) apart
 ]
@@ -100,7 +100,7 @@ place-apart history issuer number body apart =
     by_tests (is_some (accredited history issuer)) (leb number (last history issuer)) (ltb (next_number history issuer) number)
   where
     repeated : PlaceApart (place_of_taken body (upload_at history issuer number))
-    repeated = taken-apart body (upload_at history issuer number) (numbered-apart (uploads history issuer) number (filter-apart (is_upload_of issuer) history apart))
+    repeated = taken-apart body (upload_at history issuer number) (entry_numbered-apart (uploads history issuer) number (filter-apart (is_upload_of issuer) history apart))
 
     by_tests : (known old early : Bool)
         → PlaceApart (cond known (cond old (place_of_taken body (upload_at history issuer number)) (cond early (ahead (next_number history issuer)) fresh)) unknown_issuer)
@@ -199,7 +199,7 @@ request-comes office (Upload call) terms apart taken = upload-comes office call 
 request-comes office (Publish number) terms apart taken =
     let entries = publications office.history in
     publish-comes office number terms (published office.history number)
-    (answer-apart (numbered entries number) (numbered-apart entries number (filter-apart is_publication office.history apart)))
+    (answer-apart (entry_numbered entries number) (entry_numbered-apart entries number (filter-apart is_publication office.history apart)))
 request-comes office request terms apart taken = absurd taken
 
 -- ---- legal histories

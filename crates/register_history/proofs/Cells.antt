@@ -8,21 +8,21 @@ use Rattle.std.specs.List.{AllByRecursion}
 use Rattle.std.specs.Ordering.{eq_by_cmp, is_eq, is_lt, nat_cmp}
 use Rattle.authority_rules.proofs.HolderLemmas.{same_key, some_apart}
 use Rattle.authority_rules.proofs.KeyLemmas.{key_itself}
-use Rattle.lei_outside.specs.Keeping.{CellContent, CellPlace, Cells, KeptTables, cell_at}
+use Rattle.lei_outside.specs.Keeping.{CellContent, CellPlace, CellsByPlace, KeptTables, cell_at}
 use Rattle.lei_outside.specs.declared.keeper.KeptCell.{KeptCell}
 use Rattle.lei_outside.proofs.CellLemmas.{tied}
 use Rattle.lei_records.specs.declared.view.RowKey.{RowKey}
 use Rattle.lei_records.specs.Tables.{KeyTexts, key_cmp}
 use Rattle.copy_forms.specs.Json.{json_record}
-use Rattle.copy_csv.specs.Sheets.{row_of}
+use Rattle.copy_csv.specs.Sheets.{row_of_texts}
 use Rattle.register_table.specs.Held.{Cell, Held, cell_key}
 use Rattle.register_table.specs.declared.touched.Touched.{Touched}
 use Rattle.register_table.specs.Cells.{IsItemOf}
-use Rattle.register_table.specs.Touched.{is_touched, shown}
-use Rattle.register_table.specs.Undos.{cell_of}
-use Rattle.register_history.specs.Damage.{kept_of, kept_page, kind_in, made_page, sheet_at}
-use Rattle.register_history.specs.Kept.{AreCellsOf, IsKey, content, kept_cell, kind_of, name_of, place_in}
-use Rattle.register_history.specs.Standing.{AllStand, Stands}
+use Rattle.register_table.specs.Touched.{cell_under_key, is_touched}
+use Rattle.register_table.specs.Undos.{cell_with}
+use Rattle.register_history.specs.Damage.{cell_to_keep, kept_page, kind_number_in, made_page, sheet_at}
+use Rattle.register_history.specs.Kept.{AreCellsOf, IsKey, content, kept_cell, key_kind, key_name, place_in}
+use Rattle.register_history.specs.Standing.{AreRowCells, IsRowCell}
 use Rattle.register_history.specs.Touching.{AreCellsTouched}
 use Rattle.lei_records.specs.declared.item.Item.{Item}
 use Rattle.register_history.proofs.KeptLemmas.{item_kept}
@@ -31,7 +31,7 @@ use Rattle.register_history.proofs.Finding.{both, find_below, first, second}
 use Rattle.register_history.proofs.PlaceOrders.{place-order}
 
 abbrev EachStands : ℕ → List (KeyTexts × Cell) → Type 0
-EachStands last es = AllByRecursion (λ e. Stands last e.0 e.1) es
+EachStands last es = AllByRecursion (λ e. IsRowCell last e.0 e.1) es
 
 each-entry : (P : KeyTexts → Cell → Type 0) (es : List (KeyTexts × Cell)) → T (is_sorted key_cmp es) → ((key : KeyTexts) (cell : Cell) → find key_cmp key es ≡ Some cell → P key cell)
     → AllByRecursion (λ e. P e.0 e.1) es
@@ -47,14 +47,14 @@ each-entry P (e ∷ es) sorted each =
     ] refl in
     (each e.0 e.1 own, each-entry P es (second _ _ sorted) later)
 
-each-stands : (last : ℕ) (held : Held) → AllStand last held → EachStands last (entries held)
-each-stands last held all = each-entry (Stands last) (entries held) (entries_sorted held) (λ key cell found. all key cell (get-entries held key ∙ found))
+each-stands : (last : ℕ) (held : Held) → AreRowCells last held → EachStands last (entries held)
+each-stands last held all = each-entry (IsRowCell last) (entries held) (entries_sorted held) (λ key cell found. all key cell (get-entries held key ∙ found))
 
 -- ---- a cell in its place
 
 content_in : KeyTexts → Cell → CellContent
 content_in [] cell = record { touched = cell.entry; row = None }
-content_in (kind ∷ texts) cell = record { touched = cell.entry; row = option_map (λ row. json_record (row_of (sheet_at (kind_in kind)) row)) cell.row }
+content_in (kind ∷ texts) cell = record { touched = cell.entry; row = option_map (λ row. json_record (row_of_texts (sheet_at (kind_number_in kind)) row)) cell.row }
 
 in_place : KeyTexts × Cell → CellPlace × CellContent
 in_place e = (place_in e.0, content_in e.0 e.1)
@@ -74,25 +74,25 @@ unfolding content_in
 touched-same [] cell = refl
 touched-same (kind ∷ texts) cell = refl
 
-kept-same : (key : RowKey) (cell : Cell) → kept_of (cell_key key, cell) ≡ cell_at (in_place (cell_key key, cell))
+kept-same : (key : RowKey) (cell : Cell) → cell_to_keep (cell_key key, cell) ≡ cell_at (in_place (cell_key key, cell))
 unfolding in_place content_in
 kept-same (RowKey.Rec lei) cell = refl
 kept-same (RowKey.Rel start kind end) cell = refl
 kept-same (RowKey.Exc lei category) cell = refl
 
-kept-at : (last : ℕ) (e : KeyTexts × Cell) → Stands last e.0 e.1 → kept_of e ≡ cell_at (in_place e)
-kept-at last (key, cell) stands = subst (λ k. kept_of (k, cell) ≡ cell_at (in_place (k, cell))) (sym stands.under) (kept-same stands.row_key cell)
+kept-at : (last : ℕ) (e : KeyTexts × Cell) → IsRowCell last e.0 e.1 → cell_to_keep e ≡ cell_at (in_place e)
+kept-at last (key, cell) stands = subst (λ k. cell_to_keep (k, cell) ≡ cell_at (in_place (k, cell))) (sym stands.under) (kept-same stands.row_key cell)
 
 -- ---- the order of places
 
-order-same : (last : ℕ) (a b : KeyTexts) (c d : Cell) → Stands last a c → Stands last b d → slice_cmp nat_cmp (place_in a) (place_in b) ≡ key_cmp a b
+order-same : (last : ℕ) (a b : KeyTexts) (c d : Cell) → IsRowCell last a c → IsRowCell last b d → slice_cmp nat_cmp (place_in a) (place_in b) ≡ key_cmp a b
 order-same last a b c d of_a of_b =
     ap (λ k. slice_cmp nat_cmp (place_in k) (place_in b)) of_a.under
     ∙ (ap (λ k. slice_cmp nat_cmp (place_in (cell_key of_a.row_key)) (place_in k)) of_b.under
     ∙ (place-order of_a.row_key of_b.row_key of_a.is_key of_b.is_key
     ∙ (ap (λ k. key_cmp (cell_key of_a.row_key) k) (sym of_b.under) ∙ ap (λ k. key_cmp k b) (sym of_a.under))))
 
-below-made : (last : ℕ) (e : KeyTexts × Cell) (es : List (KeyTexts × Cell)) → Stands last e.0 e.1 → EachStands last es → T (below_all key_cmp e.0 es)
+below-made : (last : ℕ) (e : KeyTexts × Cell) (es : List (KeyTexts × Cell)) → IsRowCell last e.0 e.1 → EachStands last es → T (below_all key_cmp e.0 es)
     → T (below_all (slice_cmp nat_cmp) (place_in e.0) (map in_place es))
 unfolding in_place
 below-made last e [] stands all below = tt
@@ -142,11 +142,11 @@ only-made last place kept (e ∷ es) all found =
 places_antisymmetric : (a b : CellPlace) → slice_cmp nat_cmp a b ≡ Equal → a ≡ b
 places_antisymmetric = slice_cmp-IsAntisymmetric nat_cmp-IsAntisymmetric
 
-pub made-sorted : (last : ℕ) (held : Held) → AllStand last held → T (is_sorted (slice_cmp nat_cmp) (made held))
+pub made-sorted : (last : ℕ) (held : Held) → AreRowCells last held → T (is_sorted (slice_cmp nat_cmp) (made held))
 unfolding made
 made-sorted last held all = sorted-made last (entries held) (each-stands last held all) (entries_sorted held)
 
-pub cells-made : (last : ℕ) (held : Held) (cells : Cells) → AllStand last held → AreCellsOf held cells → entries cells ≡ made held
+pub cells-made : (last : ℕ) (held : Held) (cells : CellsByPlace) → AreRowCells last held → AreCellsOf held cells → entries cells ≡ made held
 unfolding made
 cells-made last held cells all are =
     let each = each-stands last held all in
@@ -169,7 +169,7 @@ cells-made last held cells all are =
     by_found place (Some kept) b is_a is_b chain each = let key = are.only place kept (get-entries cells place ∙ is_a) in chain place key.0 key.1 key.2
     by_found place None (Some kept) is_a is_b chain each = let key = only-made last place kept (entries held) each is_b in chain place key.0 key.1 key.2
 
-pub made-cells : (last : ℕ) (held : Held) (cells : Cells) → AllStand last held → entries cells ≡ made held → AreCellsOf held cells
+pub made-cells : (last : ℕ) (held : Held) (cells : CellsByPlace) → AreRowCells last held → entries cells ≡ made held → AreCellsOf held cells
 unfolding made
 made-cells last held cells all same =
     let each = each-stands last held all in
@@ -208,20 +208,20 @@ pub kept-paged : (tables : KeptTables) (bounds : ℕ × ℕ) → kept_page table
 kept-paged tables bounds = filter-cells bounds (entries tables.cells)
 
 filter-made : (last : ℕ) (bounds : ℕ × ℕ) (es : List (KeyTexts × Cell)) → EachStands last es
-    → map kept_of (filter (λ e. is_touched bounds.0 bounds.1 e.1) es) ≡ map cell_at (paged bounds (map in_place es))
+    → map cell_to_keep (filter (λ e. is_touched bounds.0 bounds.1 e.1) es) ≡ map cell_at (paged bounds (map in_place es))
 unfolding in_place
 filter-made last bounds [] all = refl
 filter-made last bounds (e ∷ es) all =
     let rest = filter (λ e. is_touched bounds.0 bounds.1 e.1) es in
     let pages = paged bounds (map in_place es) in
     let more = filter-made last bounds es all.1 in
-    elim (is_touched bounds.0 bounds.1 e.1) as (λ b. map kept_of (cond b (e ∷ rest) rest) ≡ map cell_at (cond b ((place_in e.0, content_in e.0 e.1) ∷ pages) pages)) [
+    elim (is_touched bounds.0 bounds.1 e.1) as (λ b. map cell_to_keep (cond b (e ∷ rest) rest) ≡ map cell_at (cond b ((place_in e.0, content_in e.0 e.1) ∷ pages) pages)) [
       | true ↦ (λ i. kept-at last e all.0 i ∷ more i)
       | false ↦ more
     ]
     ∙ ap (λ t. map cell_at (cond (nat_lt bounds.0 t && nat_le t bounds.1) ((place_in e.0, content_in e.0 e.1) ∷ pages) pages)) (sym (touched-same e.0 e.1))
 
-pub made-paged : (last : ℕ) (held : Held) (bounds : ℕ × ℕ) → AllStand last held → made_page held bounds ≡ map cell_at (paged bounds (made held))
+pub made-paged : (last : ℕ) (held : Held) (bounds : ℕ × ℕ) → AreRowCells last held → made_page held bounds ≡ map cell_at (paged bounds (made held))
 unfolding made
 made-paged last held bounds all = filter-made last bounds (entries held) (each-stands last held all)
 
@@ -242,7 +242,7 @@ unfolding in_place
 each-kind last [] all = tt
 each-kind last (e ∷ es) all = (subst (λ k. HasKind (place_in k)) (sym all.0.under) (key-kind all.0.row_key), each-kind last es all.1)
 
-pub made-kinds : (last : ℕ) (held : Held) → AllStand last held → AllByRecursion (λ e. HasKind e.0) (made held)
+pub made-kinds : (last : ℕ) (held : Held) → AreRowCells last held → AllByRecursion (λ e. HasKind e.0) (made held)
 unfolding made
 made-kinds last held all = each-kind last (entries held) (each-stands last held all)
 
@@ -261,28 +261,28 @@ found-number last place kept (e ∷ es) all found =
     ] found
 
 -- what is found in the places of a register was touched by its entries
-pub made-number : (last : ℕ) (held : Held) (place : CellPlace) (kept : CellContent) → AllStand last held → find (slice_cmp nat_cmp) place (made held) ≡ Some kept
+pub made-number : (last : ℕ) (held : Held) (place : CellPlace) (kept : CellContent) → AreRowCells last held → find (slice_cmp nat_cmp) place (made held) ≡ Some kept
     → (1 ≤ kept.touched) × (kept.touched ≤ last)
 unfolding made
 made-number last held place kept all found = found-number last place kept (entries held) (each-stands last held all) found
 
 -- ---- touched keys as they are kept
 
-kept-told : (told : Touched) → IsItemOf told.key told.item → kept_cell told ≡ kept_of (shown told)
+kept-told : (told : Touched) → IsItemOf told.key told.item → kept_cell told ≡ cell_to_keep (cell_under_key told)
 kept-told told own = by_key told.key told.entry told.item own
   where
-    of_content : (key : RowKey) (entry : ℕ) (item : Option Item) → kept_of (cell_key key, cell_of entry item)
-        ≡ record { kind = kind_of key; name = name_of key; touched = entry; row = (content key (cell_of entry item)).row }
+    of_content : (key : RowKey) (entry : ℕ) (item : Option Item) → cell_to_keep (cell_key key, cell_with entry item)
+        ≡ record { kind = key_kind key; name = key_name key; touched = entry; row = (content key (cell_with entry item)).row }
     of_content (RowKey.Rec lei) entry item = refl
     of_content (RowKey.Rel start kind end) entry item = refl
     of_content (RowKey.Exc lei category) entry item = refl
 
     by_key : (key : RowKey) (entry : ℕ) (item : Option Item) → IsItemOf key item
-        → kept_cell (record { key = key; entry = entry; item = item }) ≡ kept_of (cell_key key, cell_of entry item)
+        → kept_cell (record { key = key; entry = entry; item = item }) ≡ cell_to_keep (cell_key key, cell_with entry item)
     by_key key entry item own =
-        ap (λ c. record { kind = kind_of key; name = name_of key; touched = entry; row = c.row }) (sym (item_kept key entry item own)) ∙ sym (of_content key entry item)
+        ap (λ c. record { kind = key_kind key; name = key_name key; touched = entry; row = c.row }) (sym (item_kept key entry item own)) ∙ sym (of_content key entry item)
 
-all-kept-told : (list : List Touched) → AllByRecursion (λ told. IsItemOf told.key told.item) list → map kept_cell list ≡ map kept_of (map shown list)
+all-kept-told : (list : List Touched) → AllByRecursion (λ told. IsItemOf told.key told.item) list → map kept_cell list ≡ map cell_to_keep (map cell_under_key list)
 all-kept-told [] own = refl
 all-kept-told (told ∷ list) own =
     let one = kept-told told own.0 in
@@ -291,4 +291,4 @@ all-kept-told (told ∷ list) own =
 
 -- the cells of a page of the register
 pub touched-page : (after upto : ℕ) (held : Held) (cells : List KeptCell) → AreCellsTouched after upto held cells → cells ≡ made_page held (after, upto)
-touched-page after upto held cells is = is.are ∙ (all-kept-told is.list is.own ∙ ap (map kept_of) is.told)
+touched-page after upto held cells is = is.are ∙ (all-kept-told is.list is.own ∙ ap (map cell_to_keep) is.told)

@@ -11,7 +11,7 @@ use Rattle.register_words.specs.declared.malformed.Malformed.{Malformed}
 use Rattle.lei_records.specs.Checks.{FailedCheck}
 use Rattle.lei_records.specs.Cells.{has_no_event}
 use Rattle.lei_records.specs.Fields.{fields}
-use Rattle.lei_records.specs.Items.{failed_check, ready, readied, row_of}
+use Rattle.lei_records.specs.Items.{failed_check, ready, readied_as, row_of}
 use Rattle.lei_records.specs.RuleNumbers.{rules_of}
 use Rattle.lei_records.specs.Tables.{Table, key_cmp, record_key, row_at}
 use Rattle.lei_records.specs.Walks.{NameOne, successors_of}
@@ -31,25 +31,25 @@ use Rattle.register_table.specs.Held.{no_rows}
 use Rattle.register_words.specs.declared.limits.Limits.{Limits}
 use Rattle.upload_ledger.specs.History.{History, last_entry}
 use Rattle.register_history.specs.Legal.{Legal, LegalAfter, last_rules}
-use Rattle.register_history.specs.Register.{after, after_entry, entry_sitting, items_in, items_of, take_items}
+use Rattle.register_history.specs.Register.{after, after_entry, entry_items, entry_sitting, readied_items, take_items}
 use Rattle.register_history.specs.State.{OfficeState, office_of}
 use Rattle.register_history.proofs.Histories.{after-push, follows-within, last_entry-push}
 
 -- ---- items that were read fit the rules that they were read by
 
-readied-fits : (rules : Rules) (kind : Kind) (pairs : List (List ℕ × List ℕ)) (failed : Option FailedCheck) → failed_check rules kind pairs ≡ failed → ItemFits rules (readied kind pairs failed)
-readied-fits rules kind pairs (Some check) is = tt
-readied-fits rules Kind.Relation pairs None is = tt
-readied-fits rules Kind.Exception pairs None is = tt
-readied-fits Rules.First Kind.Record pairs None is = one_named pairs is
-readied-fits Rules.Second Kind.Record pairs None is = tt
-readied-fits Rules.Third Kind.Record pairs None is = tt
+readied_as-fits : (rules : Rules) (kind : Kind) (pairs : List (List ℕ × List ℕ)) (failed : Option FailedCheck) → failed_check rules kind pairs ≡ failed → ItemFits rules (readied_as kind pairs failed)
+readied_as-fits rules kind pairs (Some check) is = tt
+readied_as-fits rules Kind.Relation pairs None is = tt
+readied_as-fits rules Kind.Exception pairs None is = tt
+readied_as-fits Rules.First Kind.Record pairs None is = one_named pairs is
+readied_as-fits Rules.Second Kind.Record pairs None is = tt
+readied_as-fits Rules.Third Kind.Record pairs None is = tt
 
 ready-fit : (rules : Rules) (raws : List RawItem) → ItemsFit rules (map (ready rules) raws)
 ready-fit rules [] = tt
-ready-fit rules (RawItem.Record pairs ∷ raws) = (readied-fits rules Kind.Record pairs (failed_check rules Kind.Record pairs) refl, ready-fit rules raws)
-ready-fit rules (RawItem.Relation pairs ∷ raws) = (readied-fits rules Kind.Relation pairs (failed_check rules Kind.Relation pairs) refl, ready-fit rules raws)
-ready-fit rules (RawItem.Exception pairs ∷ raws) = (readied-fits rules Kind.Exception pairs (failed_check rules Kind.Exception pairs) refl, ready-fit rules raws)
+ready-fit rules (RawItem.Record pairs ∷ raws) = (readied_as-fits rules Kind.Record pairs (failed_check rules Kind.Record pairs) refl, ready-fit rules raws)
+ready-fit rules (RawItem.Relation pairs ∷ raws) = (readied_as-fits rules Kind.Relation pairs (failed_check rules Kind.Relation pairs) refl, ready-fit rules raws)
+ready-fit rules (RawItem.Exception pairs ∷ raws) = (readied_as-fits rules Kind.Exception pairs (failed_check rules Kind.Exception pairs) refl, ready-fit rules raws)
 
 -- the record reports no event
 abbrev pub NoEvent : Row → Type 0
@@ -74,12 +74,12 @@ early-rules number least low = by (number == 1) (number == 2) refl refl
         let not_second : number ≢ 2 = λ is. absurd (false≢true (sym two ∙ ap (λ n. n == 2) is)) in
         absurd (apart number least low not_first not_second))
 
-readied-plain : (rules : Rules) (pairs : List (List ℕ × List ℕ)) (failed : Option FailedCheck) → KnowNoEvent rules → failed_check rules Kind.Record pairs ≡ failed
-    → IfRecord NoEvent (readied Kind.Record pairs failed)
-readied-plain rules pairs (Some check) plain is = tt
-readied-plain rules pairs None plain is = plain pairs is
+readied_as-plain : (rules : Rules) (pairs : List (List ℕ × List ℕ)) (failed : Option FailedCheck) → KnowNoEvent rules → failed_check rules Kind.Record pairs ≡ failed
+    → IfRecord NoEvent (readied_as Kind.Record pairs failed)
+readied_as-plain rules pairs (Some check) plain is = tt
+readied_as-plain rules pairs None plain is = plain pairs is
 
-other-readied : (kind : Kind) (pairs : List (List ℕ × List ℕ)) (failed : Option FailedCheck) → (kind ≡ Kind.Record → ⊥) → IfRecord NoEvent (readied kind pairs failed)
+other-readied : (kind : Kind) (pairs : List (List ℕ × List ℕ)) (failed : Option FailedCheck) → (kind ≡ Kind.Record → ⊥) → IfRecord NoEvent (readied_as kind pairs failed)
 other-readied kind pairs (Some check) other = tt
 other-readied Kind.Record pairs None other = absurd (other refl)
 other-readied Kind.Relation pairs None other = tt
@@ -87,15 +87,15 @@ other-readied Kind.Exception pairs None other = tt
 
 ready-plain : (rules : Rules) (raws : List RawItem) → KnowNoEvent rules → EachRecordOf NoEvent (map (ready rules) raws)
 ready-plain rules [] plain = tt
-ready-plain rules (RawItem.Record pairs ∷ raws) plain = (readied-plain rules pairs (failed_check rules Kind.Record pairs) plain refl, ready-plain rules raws plain)
+ready-plain rules (RawItem.Record pairs ∷ raws) plain = (readied_as-plain rules pairs (failed_check rules Kind.Record pairs) plain refl, ready-plain rules raws plain)
 ready-plain rules (RawItem.Relation pairs ∷ raws) plain = (other-readied Kind.Relation pairs (failed_check rules Kind.Relation pairs) (λ is. cc), ready-plain rules raws plain)
 ready-plain rules (RawItem.Exception pairs ∷ raws) plain = (other-readied Kind.Exception pairs (failed_check rules Kind.Exception pairs) (λ is. cc), ready-plain rules raws plain)
 
-read-plain : (rules : Rules) (read : Result (List RawItem) Malformed) → KnowNoEvent rules → EachRecordOf NoEvent (items_in rules read)
+read-plain : (rules : Rules) (read : Result (List RawItem) Malformed) → KnowNoEvent rules → EachRecordOf NoEvent (readied_items rules read)
 read-plain rules (Ok raws) plain = ready-plain rules raws plain
 read-plain rules (Err fault) plain = tt
 
-read-fit : (rules : Rules) (read : Result (List RawItem) Malformed) → ItemsFit rules (items_in rules read)
+read-fit : (rules : Rules) (read : Result (List RawItem) Malformed) → ItemsFit rules (readied_items rules read)
 read-fit rules (Ok raws) = ready-fit rules raws
 read-fit rules (Err fault) = tt
 
@@ -136,8 +136,8 @@ table-fits before number table is rising = by (number == 1) refl
 entry-chained : (limits : Limits) (before : ℕ) (table : Table) (e : KeptEntry) → IsChained before table → before ≤ e.rules → 1 ≤ e.rules → IsChained e.rules (after_entry limits table e)
 entry-chained limits before table e is rising least =
     let fits = table-fits before e.rules table is rising in
-    elim (e.kind == 2) as (λ b. IsChained e.rules (cond b (take_items limits table e (items_of e)).table table)) [
-      | true ↦ taken-chained e.rules table (entry_sitting limits e) (items_of e) refl fits (read-fit (rules_of e.rules) (upload e.body)) is.chains least
+    elim (e.kind == 2) as (λ b. IsChained e.rules (cond b (take_items limits table e (entry_items e)).table table)) [
+      | true ↦ taken-chained e.rules table (entry_sitting limits e) (entry_items e) refl fits (read-fit (rules_of e.rules) (upload e.body)) is.chains least
           (λ low. is.plain (omega (arith, low, rising))) (λ low. read-plain (rules_of e.rules) (upload e.body) (early-rules e.rules least low))
       | false ↦ record {
         chains = is.chains;

@@ -17,7 +17,7 @@ use Rattle.register_words.specs.declared.sheets.Form.{Form}
 use Rattle.register_words.specs.declared.sheets.Sheet.{Sheet}
 use Rattle.copy_forms.specs.Trails.{Publication, Trail}
 use Rattle.golden_shelf.specs.declared.fault.ShelfFault.{ShelfFault}
-use Rattle.golden_shelf.specs.Bases.{base_in, moments_of}
+use Rattle.golden_shelf.specs.Bases.{base_in, trail_moments}
 use Rattle.golden_shelf.specs.Shelves.{latest}
 use Rattle.register_table.specs.Held.{no_rows}
 use Rattle.register_words.specs.declared.limits.Limits.{Limits}
@@ -30,10 +30,10 @@ use Rattle.register_words.specs.declared.reply.Reply.TheVariants.{Words}
 use Rattle.upload_ledger.specs.History.{History, accredited, kept, Place, unknown_issuer, repeat_of, number_taken, ahead, fresh, place, published, last_entry, later, stamp}
 use Rattle.register_history.specs.Publications.{trail}
 use Rattle.register_history.specs.Register.{after, after_entry}
-use Rattle.register_history.specs.Replies.{stays, adds, newest_rules, outcome, outcome_at, outcome_by, terms_by, changed, copied, show_outcome, accredit_outcome, answer_outcome, is_full, is_too_much, next_publication, publication_entry, publish_outcome, status_outcome, upload_outcome, place_outcome, body_outcome, accreditation, taken_upload, history_after, next, next_of, StepOf}
-use Rattle.register_history.specs.Legal.{request_of, IsNext, LegalAfter, Legal, last_rules, may_follow}
+use Rattle.register_history.specs.Replies.{stays, adds, newest_rules, outcome, outcome_at, outcome_by, terms_by, delta_to_latest, copy_of_latest, show_outcome, accredit_outcome, answer_outcome, is_full, is_too_much, next_publication, publication_entry, publish_outcome, status_outcome, upload_outcome, place_outcome, body_outcome, accreditation, taken_upload, history_after, next, next_of, StepOf}
+use Rattle.register_history.specs.Legal.{request_of, IsNext, LegalAfter, Legal, last_rules, rules_may_follow}
 use Rattle.register_words.specs.Requests.{IsRequest}
-use Rattle.register_history.specs.State.{OfficeState, office_of, opened}
+use Rattle.register_history.specs.State.{OfficeState, new_office, office_of}
 use Rattle.register_history.specs.declared.terms.EntryTerms.{EntryTerms}
 
 -- ---- the table
@@ -53,7 +53,7 @@ pub Legal-push : (limits : Limits) (history : History) (e : KeptEntry) → Legal
 unfolding Legal
 Legal-push limits history e legal is = LegalAfter-push limits [] history e legal is
 
-pub Legal-opened : (limits : Limits) → Legal (opened limits)
+pub Legal-opened : (limits : Limits) → Legal (new_office limits)
 unfolding Legal
 Legal-opened limits = tt
 
@@ -118,11 +118,11 @@ publication-added office number terms found e is =
     let same = (publish_adds office number terms found e is).is in
     record { for_request = ap request_of (sym same); at_moment = ap (λ a. a.moment) (sym same); of_rules = ap (λ a. a.rules) (sym same) }
 
-copy_adds_none : (sheet : Sheet) (form : Form) (number : ℕ) (found : Option Publication) (e : KeptEntry) → copied sheet form number found ≡ adds e → ⊥
+copy_adds_none : (sheet : Sheet) (form : Form) (number : ℕ) (found : Option Publication) (e : KeptEntry) → copy_of_latest sheet form number found ≡ adds e → ⊥
 copy_adds_none sheet form number None e is = cc
 copy_adds_none sheet form number (Some publication) e is = cc
 
-delta_adds_none : (sheet : Sheet) (form : Form) (made : Trail) (found : Result ℕ ShelfFault) (last : Option Publication) (e : KeptEntry) → changed sheet form made found last ≡ adds e → ⊥
+delta_adds_none : (sheet : Sheet) (form : Form) (made : Trail) (found : Result ℕ ShelfFault) (last : Option Publication) (e : KeptEntry) → delta_to_latest sheet form made found last ≡ adds e → ⊥
 delta_adds_none sheet form made (Err fault) last e is = cc
 delta_adds_none sheet form made (Ok from) None e is = cc
 delta_adds_none sheet form made (Ok from) (Some publication) e is = cc
@@ -145,7 +145,7 @@ request_adds office (Upload call) terms e is = (upload_adds office call terms e 
 request_adds office (Kept lei number) terms e is = absurd (kept_adds_none (is_some (accredited office.history lei)) (kept office.history lei number) e is)
 request_adds office (Publish number) terms e is = publication-added office number terms (published office.history number) e is
 request_adds office (Copy sheet form) terms e is = absurd (copy_adds_none sheet form (length (trail office)) (latest (trail office)) e is)
-request_adds office (Delta base sheet form) terms e is = absurd (delta_adds_none sheet form (trail office) (base_in (moments_of (trail office)) base) (latest (trail office)) e is)
+request_adds office (Delta base sheet form) terms e is = absurd (delta_adds_none sheet form (trail office) (base_in (trail_moments (trail office)) base) (latest (trail office)) e is)
 request_adds office Status terms e is = absurd (status_adds_none office.history (after office.limits office.history) e is)
 request_adds office (Show lei) terms e is = absurd (show_adds_none (row_at (after office.limits office.history) lei) e is)
 
@@ -160,7 +160,7 @@ pub record FollowWithin (history : History) (rules : ℕ) : Type 0 where
   pub most : rules ≤ newest_rules
   pub rising : last_rules (last_entry history) ≤ rules
 
-pub follows-within : (history : History) (rules : ℕ) → may_follow history rules ≡ true → FollowWithin history rules
+pub follows-within : (history : History) (rules : ℕ) → rules_may_follow history rules ≡ true → FollowWithin history rules
 follows-within history rules is =
     let last = last_rules (last_entry history) in
     let all = both_true (nat_le 1 rules && nat_le rules newest_rules) (nat_le last rules) is in
@@ -236,7 +236,7 @@ last-rules limits before (e ∷ rest) legal most =
     subst P (append_assoc before (e ∷ []) rest) (last-rules limits (before ++ e ∷ []) rest legal.1 (subst M (sym (last_entry-push before e)) (follows-within before e.rules legal.0.4).most))
 
 -- so the newest rules may follow
-pub newest-follows : (limits : Limits) (history : History) → Legal (office_of limits history) → may_follow history newest_rules ≡ true
+pub newest-follows : (limits : Limits) (history : History) → Legal (office_of limits history) → rules_may_follow history newest_rules ≡ true
 unfolding Legal
 newest-follows limits history legal =
     let most = last-rules limits [] history legal (omega arith) in
@@ -245,7 +245,7 @@ newest-follows limits history legal =
 
 -- a request leads from a legal history to a legal one
 pub added-is_next : (limits : Limits) (history : History) (rules : ℕ) (request : Request) (moment : ℤ) (e : KeptEntry) → IsRequest request → IsMoment moment
-    → may_follow history rules ≡ true → Legal (office_of limits history) → outcome_by rules (office_of limits history) request moment ≡ adds e → IsNext (office_of limits history) e
+    → rules_may_follow history rules ≡ true → Legal (office_of limits history) → outcome_by rules (office_of limits history) request moment ≡ adds e → IsNext (office_of limits history) e
 added-is_next limits history rules request moment e asked is follows legal comes =
     let office = office_of limits history in
     let added = request_adds office request (terms_by rules history moment) e comes in
@@ -254,7 +254,7 @@ added-is_next limits history rules request moment e asked is follows legal comes
       added.for_request,
       asked,
       subst M (sym added.at_moment) (stamp-is_moment limits history moment legal is),
-      ap (may_follow history) added.of_rules ∙ follows,
+      ap (rules_may_follow history) added.of_rules ∙ follows,
       ap (λ r. outcome_by r office request e.moment) added.of_rules ∙ (ap (outcome_by rules office request) added.at_moment ∙ (outcome-again rules office request moment ∙ comes)),
     )
 

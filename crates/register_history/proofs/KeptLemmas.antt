@@ -13,7 +13,7 @@ use Rattle.std.proofs.lemmas.Bool.{leb-true, ltb-true}
 use Rattle.std.proofs.lemmas.Bool.Decides.{nat_tests}
 use mathlib.Core.Bool.{true≢false}
 use Rattle.std.specs.Str.{IsAscii}
-use Rattle.lei_outside.specs.Keeping.{AreApart, Becomes, CellContent, CellPlace, Cells, IsBatch, IsCellOf, KeptTables, content_of, nothing_kept, place_of, put_cell, put_cells, with_batch}
+use Rattle.lei_outside.specs.Keeping.{Becomes, CellContent, CellPlace, CellsByPlace, HaveOwnPlaces, IsBatch, IsCellOf, KeptTables, cell_content, cell_place, nothing_kept, put_cell, put_cells, with_batch}
 use Rattle.lei_outside.specs.declared.keeper.Batch.{Batch}
 use Rattle.lei_outside.specs.declared.keeper.KeptCell.{KeptCell}
 use Rattle.lei_outside.proofs.CellLemmas.{itself, tied}
@@ -26,15 +26,15 @@ use Rattle.lei_records.specs.Rows.{Row}
 use Rattle.register_words.specs.declared.sheets.Sheet.{Sheet}
 use Rattle.copy_forms.specs.Items.{item_text}
 use Rattle.copy_forms.specs.Json.{json_record}
-use Rattle.copy_csv.specs.Sheets.{row_of}
+use Rattle.copy_csv.specs.Sheets.{row_of_texts}
 use Rattle.register_table.specs.declared.touched.Touched.{Touched}
 use Rattle.register_table.specs.Cells.{IsItemOf}
 use Rattle.register_table.specs.Held.{Cell, Held, cell_key}
-use Rattle.register_table.specs.Touched.{is_touched, shown, touched}
-use Rattle.register_table.specs.Undos.{IsLater, WriteList, cell_of, touch, touch_all}
+use Rattle.register_table.specs.Touched.{cell_under_key, is_touched, touched}
+use Rattle.register_table.specs.Undos.{IsLater, WriteList, cell_with, touch, touch_all}
 use Rattle.register_table.proofs.StampLemmas.{find_below, only, touched-find, touched-sorted}
 use Rattle.upload_ledger.specs.History.{History}
-use Rattle.register_history.specs.Kept.{AreCellsOf, AreTablesWith, IsKey, StaysUntold, TablesAreOne, content, kept_cell, place_in, sheet_of}
+use Rattle.register_history.specs.Kept.{AreCellsOf, AreTablesWith, IsKey, StaysUntold, TablesAreOne, content, kept_cell, place_in, sheet_of_key}
 use Rattle.register_history.specs.Register.{held_after}
 use Rattle.register_history.specs.State.{OfficeState}
 use Rattle.register_history.specs.Touching.{AreTouchedCells, Touches}
@@ -42,7 +42,7 @@ use Rattle.register_history.proofs.PlaceLemmas.{name_ascii, place-kept, same_pla
 
 -- ---- what is kept under a function of keys
 
-pub record KeepsUnder (held : KeyTexts → Option Cell) (cells : Cells) : Type 0 where
+pub record KeepsUnder (held : KeyTexts → Option Cell) (cells : CellsByPlace) : Type 0 where
   pub each : (key : RowKey) → IsKey key → get cells (place_in (cell_key key)) ≡ option_map (content key) (held (cell_key key))
   pub only : (place : CellPlace) (kept : CellContent) → get cells place ≡ Some kept → (key : RowKey) × IsKey key × (place ≡ place_in (cell_key key))
 
@@ -64,7 +64,7 @@ apart_13 P x y is = let e : ◌≡◌ {A = ℕ} 1 3 = cc in absurd (omega (arith
 apart_23 : (P : Type 0) (x y : KeyTexts) → ◌≡◌ {A = KeyTexts} ((2 ∷ []) ∷ x) ((3 ∷ []) ∷ y) → P
 apart_23 P x y is = let e : ◌≡◌ {A = ℕ} 2 3 = cc in absurd (omega (arith, e))
 
-sheet_same : (a b : RowKey) → cell_key a ≡ cell_key b → sheet_of a ≡ sheet_of b
+sheet_same : (a b : RowKey) → cell_key a ≡ cell_key b → sheet_of_key a ≡ sheet_of_key b
 sheet_same (RowKey.Rec l) (RowKey.Rec m) is = refl
 sheet_same (RowKey.Rel s k e) (RowKey.Rel f t l) is = refl
 sheet_same (RowKey.Exc l c) (RowKey.Exc m g) is = refl
@@ -77,9 +77,9 @@ sheet_same (RowKey.Exc l c) (RowKey.Rel f t m) is = apart_23 _ _ _ (sym is)
 
 -- what is kept of an item under its own key
 content_in : Sheet → ℕ → Row → CellContent
-content_in sheet entry row = record { touched = entry; row = Some (json_record (row_of sheet row)) }
+content_in sheet entry row = record { touched = entry; row = Some (json_record (row_of_texts sheet row)) }
 
-pub item_kept : (key : RowKey) (entry : ℕ) (item : Option Item) → IsItemOf key item → content key (cell_of entry item) ≡ record { touched = entry; row = option_map item_text item }
+pub item_kept : (key : RowKey) (entry : ℕ) (item : Option Item) → IsItemOf key item → content key (cell_with entry item) ≡ record { touched = entry; row = option_map item_text item }
 unfolding content_in
 item_kept key entry None own = refl
 item_kept key entry (Some (Item.Record row)) own = ap (λ s. content_in s entry row) (sheet_same key (row_key (Item.Record row)) own)
@@ -87,7 +87,7 @@ item_kept key entry (Some (Item.Relation row)) own = ap (λ s. content_in s entr
 item_kept key entry (Some (Item.Exception item)) own = ap (λ s. content_in s entry item.0) (sheet_same key (row_key (Item.Exception item)) own)
 
 content_same : (a b : RowKey) (cell : Cell) → cell_key a ≡ cell_key b → content a cell ≡ content b cell
-content_same a b cell is = ap (λ s. record { touched = cell.entry; row = option_map (λ row. json_record (row_of s row)) cell.row }) (sheet_same a b is)
+content_same a b cell is = ap (λ s. record { touched = cell.entry; row = option_map (λ row. json_record (row_of_texts s row)) cell.row }) (sheet_same a b is)
 
 -- ---- one cell more
 
@@ -108,14 +108,14 @@ kept_by : (b : Bool) (key : RowKey) (own : CellContent) (cell : Cell) (held : Op
 kept_by true key own cell held is = ap Some (is refl)
 kept_by false key own cell held is = refl
 
-put-told : (held : KeyTexts → Option Cell) (cells : Cells) (told : Touched) → KeepsUnder held cells → IsKey told.key → IsItemOf told.key told.item
-    → KeepsUnder (with_told held (shown told)) (put_cell cells (kept_cell told))
+put-told : (held : KeyTexts → Option Cell) (cells : CellsByPlace) (told : Touched) → KeepsUnder held cells → IsKey told.key → IsItemOf told.key told.item
+    → KeepsUnder (with_told held (cell_under_key told)) (put_cell cells (kept_cell told))
 unfolding with_told
 put-told held cells told keeps of_told own =
-    let at = place_of (kept_cell told) in
-    let new = content_of (kept_cell told) in
+    let at = cell_place (kept_cell told) in
+    let new = cell_content (kept_cell told) in
     let here : at ≡ place_in (cell_key told.key) = place-kept told in
-    let cell = cell_of told.entry told.item in
+    let cell = cell_with told.entry told.item in
     record {
       each = λ key of_key.
           let place = place_in (cell_key key) in
@@ -134,12 +134,12 @@ put-told held cells told keeps of_told own =
           ] refl (sym (get-insert nat_list_cmp_total cells at new place) ∙ is);
     }
 
-put-all-told : (list : List Touched) (held : KeyTexts → Option Cell) (cells : Cells) → KeepsUnder held cells → AllByRecursion (λ told. IsKey told.key) list
-    → AllByRecursion (λ told. IsItemOf told.key told.item) list → KeepsUnder (told_over held (map shown list)) (put_cells cells (map kept_cell list))
+put-all-told : (list : List Touched) (held : KeyTexts → Option Cell) (cells : CellsByPlace) → KeepsUnder held cells → AllByRecursion (λ told. IsKey told.key) list
+    → AllByRecursion (λ told. IsItemOf told.key told.item) list → KeepsUnder (told_over held (map cell_under_key list)) (put_cells cells (map kept_cell list))
 unfolding told_over
 put-all-told [] held cells keeps keys own = keeps
 put-all-told (told ∷ list) held cells keeps keys own =
-    put-all-told list (with_told held (shown told)) (put_cell cells (kept_cell told)) (put-told held cells told keeps keys.0 own.0) keys.1 own.1
+    put-all-told list (with_told held (cell_under_key told)) (put_cell cells (kept_cell told)) (put-told held cells told keeps keys.0 own.0) keys.1 own.1
 
 -- ---- the touched cells over those before are those after
 
@@ -197,7 +197,7 @@ if_held held number key later = by_cell (get held key) refl where
   by_cell None is = tt
   by_cell (Some cell) is = later key cell is
 
-pub cells-touched : (number : ℕ) (before after : Held) (cells : Cells) (list : List KeptCell) → 1 ≤ number → AreCellsOf before cells → Touches number before after
+pub cells-touched : (number : ℕ) (before after : Held) (cells : CellsByPlace) (list : List KeptCell) → 1 ≤ number → AreCellsOf before cells → Touches number before after
     → AreTouchedCells number after list → AreCellsOf after (put_cells cells list)
 cells-touched number before after cells list some are touches is =
     let es = touched (number - 1) number after in
@@ -224,7 +224,7 @@ touch-each number [] held key = inl refl
 touch-each number (write ∷ writes) held key = elim (touch-each number writes (touch number held write) key) [
   | inr there ↦ inr there
   | inl same ↦
-      let cell = cell_of number write.1 in
+      let cell = cell_with number write.1 in
       let step = same ∙ get-insert keys_total held (cell_key write.0) cell key in
       elim (eq_by_cmp key_cmp key (cell_key write.0)) as (λ b. get (touch_all number writes (touch number held write)) key ≡ cond b (Some cell) (get held key)
       → IsTouchedAt number (get held key) (get (touch_all number writes (touch number held write)) key)) [
@@ -258,7 +258,7 @@ number_own number entry some is =
     both_of false q is = cc
 
 own_cells : (number : ℕ) (list : List Touched) → 1 ≤ number → AllByRecursion (λ told. IsKey told.key) list
-    → AllByRecursion (λ e. is_touched (number - 1) number e.1 ≡ true) (map shown list) → AllByRecursion (IsCellOf number) (map kept_cell list)
+    → AllByRecursion (λ e. is_touched (number - 1) number e.1 ≡ true) (map cell_under_key list) → AllByRecursion (IsCellOf number) (map kept_cell list)
 own_cells number [] some keys pass = tt
 own_cells number (told ∷ list) some keys pass =
     ((number_own number told.entry some pass.0, name_ascii told.key keys.0), own_cells number list some keys.1 pass.1)
@@ -268,12 +268,12 @@ lower Less t = refl
 lower Equal t = absurd t
 lower Greater t = absurd t
 
-places_apart : (told : Touched) (list : List Touched) → IsKey told.key → AllByRecursion (λ told. IsKey told.key) list → T (below_all key_cmp (cell_key told.key) (map shown list))
-    → AllByRecursion (λ other. place_of other ≡ place_of (kept_cell told) → ⊥) (map kept_cell list)
+places_apart : (told : Touched) (list : List Touched) → IsKey told.key → AllByRecursion (λ told. IsKey told.key) list → T (below_all key_cmp (cell_key told.key) (map cell_under_key list))
+    → AllByRecursion (λ other. cell_place other ≡ cell_place (kept_cell told) → ⊥) (map kept_cell list)
 places_apart told [] of_told keys below = tt
 places_apart told (next ∷ list) of_told keys below =
-    let less = first_of (is_lt (key_cmp (cell_key told.key) (cell_key next.key))) (below_all key_cmp (cell_key told.key) (map shown list)) below in
-    let rest = second_of (is_lt (key_cmp (cell_key told.key) (cell_key next.key))) (below_all key_cmp (cell_key told.key) (map shown list)) below in (
+    let less = first_of (is_lt (key_cmp (cell_key told.key) (cell_key next.key))) (below_all key_cmp (cell_key told.key) (map cell_under_key list)) below in
+    let rest = second_of (is_lt (key_cmp (cell_key told.key) (cell_key next.key))) (below_all key_cmp (cell_key told.key) (map cell_under_key list)) below in (
       λ same.
           let keys_same = same_place told.key next.key of_told keys.0 (sym (place-kept told) ∙ (sym same ∙ place-kept next)) in
           let equal : is_eq (key_cmp (cell_key told.key) (cell_key next.key)) ≡ true = subst (λ k. eq_by_cmp key_cmp (cell_key told.key) k ≡ true) keys_same (key_itself (cell_key told.key)) in
@@ -281,10 +281,10 @@ places_apart told (next ∷ list) of_told keys below =
       places_apart told list of_told keys.1 rest,
     )
 
-cells_apart : (list : List Touched) → AllByRecursion (λ told. IsKey told.key) list → T (is_sorted key_cmp (map shown list)) → AreApart (map kept_cell list)
+cells_apart : (list : List Touched) → AllByRecursion (λ told. IsKey told.key) list → T (is_sorted key_cmp (map cell_under_key list)) → HaveOwnPlaces (map kept_cell list)
 cells_apart [] keys sorted = tt
 cells_apart (told ∷ list) keys sorted =
-    let es = map shown list in (
+    let es = map cell_under_key list in (
       places_apart told list keys.0 keys.1 (first_of (below_all key_cmp (cell_key told.key) es) (is_sorted key_cmp es) sorted),
       cells_apart list keys.1 (second_of (below_all key_cmp (cell_key told.key) es) (is_sorted key_cmp es) sorted),
     )
@@ -299,7 +299,7 @@ touched-batch batch after some most ascii is =
       number = most;
       office = ascii;
       cells = subst (AllByRecursion (IsCellOf number)) (sym is.are) (own_cells number is.list some is.keys (subst P (sym is.told) (all_pass (is_touched (number - 1) number) (entries after))));
-      apart = subst AreApart (sym is.are) (cells_apart is.list is.keys (subst S (sym is.told) (touched-sorted (number - 1) number after)));
+      apart = subst HaveOwnPlaces (sym is.are) (cells_apart is.list is.keys (subst S (sym is.told) (touched-sorted (number - 1) number after)));
     }
 
 -- ---- tables
@@ -338,7 +338,7 @@ pub untold-join : (old mid new : Option KeptTables) → StaysUntold old mid → 
 untold-join old mid new first second some = first (second some)
 
 -- no two different pairs of tables are those of one office
-cells-one : (held : Held) (one other : Cells) → AreCellsOf held one → AreCellsOf held other → one ≡ other
+cells-one : (held : Held) (one other : CellsByPlace) → AreCellsOf held one → AreCellsOf held other → one ≡ other
 cells-one held one other of_one of_other = same_map nat_list_cmp_total (slice_cmp-IsAntisymmetric nat_cmp-IsAntisymmetric) one other (λ place. by_kept place (get one place) (get other place) refl refl)
   where
     by_kept : (place : CellPlace) (a b : Option CellContent) → get one place ≡ a → get other place ≡ b → get one place ≡ get other place

@@ -8,22 +8,22 @@ use Rattle.std.proofs.lemmas.List.Elements.{All-head, All-tail}
 use Rattle.lei_records.specs.Tables.{KeyTexts, key_cmp}
 use Rattle.lei_records.specs.declared.view.RowKey.{RowKey}
 use Rattle.register_words.specs.declared.sheets.Sheet.{Sheet}
-use Rattle.copy_csv.specs.Rows.{AreRows, IsRowOf}
+use Rattle.copy_csv.specs.Rows.{AreRows, IsRowOfSheet}
 use Rattle.copy_csv.specs.Sheets.{SheetRow, key}
 use Rattle.copy_forms.specs.Trails.{IsKeyOf, row_under}
-use Rattle.golden_shelf.specs.Changes.{AreOwnChanges, Changes, IsOwnChange, IsRowUnder}
-use Rattle.golden_shelf.specs.Keys.{key_texts, sheet_of}
+use Rattle.golden_shelf.specs.Changes.{AreOwnChanges, IsOwnChange, IsRowUnder, KeyChanges}
+use Rattle.golden_shelf.specs.Keys.{key_texts, sheet_of_key}
 use Rattle.golden_shelf.proofs.Keeping.{under_keys}
 use Rattle.register_table.specs.declared.touched.Touched.{Touched}
 use Rattle.register_table.specs.Cells.{AreOwnItems}
 use Rattle.register_table.specs.Held.{Held, cell_key}
-use Rattle.register_table.specs.Touched.{shown}
+use Rattle.register_table.specs.Touched.{cell_under_key}
 use Rattle.upload_ledger.specs.History.{History}
 use Rattle.register_words.specs.declared.limits.Limits.{Limits}
 use Rattle.register_history.specs.Legal.{Legal}
-use Rattle.register_history.specs.Standing.{AllStand}
+use Rattle.register_history.specs.Standing.{AreRowCells}
 use Rattle.register_history.specs.Publications.{last_published, published_rows}
-use Rattle.register_history.specs.Publishing.{AreNextChanges, change_of, row_published}
+use Rattle.register_history.specs.Publishing.{AreNextChanges, row_change_of, row_published}
 use Rattle.register_history.specs.Register.{after, held_after}
 use Rattle.register_history.specs.State.{office_of}
 use Rattle.register_history.proofs.Stored.{held-stands}
@@ -43,14 +43,14 @@ behind-is (RowKey.Rec lei) = refl
 behind-is (RowKey.Rel start kind end) = refl
 behind-is (RowKey.Exc lei category) = refl
 
-same-key : (a b : RowKey) → cell_key a ≡ cell_key b → IsKeyOf (sheet_of b) (key_texts b) → IsKeyOf (sheet_of a) (key_texts a)
+same-key : (a b : RowKey) → cell_key a ≡ cell_key b → IsKeyOf (sheet_of_key b) (key_texts b) → IsKeyOf (sheet_of_key a) (key_texts a)
 same-key a b same is =
     subst (λ s. IsKeyOf s (key_texts a)) (sym (same-sheet a b same))
-    (subst (IsKeyOf (sheet_of b)) (sym (sym (behind-is a) ∙ (ap behind same ∙ behind-is b))) is)
+    (subst (IsKeyOf (sheet_of_key b)) (sym (sym (behind-is a) ∙ (ap behind same ∙ behind-is b))) is)
 
-held-key : (number : ℕ) (held : Held) (t : Touched) → AllStand number held → IsFoundIn held (shown t) → IsKeyOf (sheet_of t.key) (key_texts t.key)
+held-key : (number : ℕ) (held : Held) (t : Touched) → AreRowCells number held → IsFoundIn held (cell_under_key t) → IsKeyOf (sheet_of_key t.key) (key_texts t.key)
 held-key number held t all found =
-    let stands = all (cell_key t.key) (shown t).1 found in
+    let stands = all (cell_key t.key) (cell_under_key t).1 found in
     same-key t.key stands.row_key stands.under (key-is stands.row_key stands.is_key)
 
 -- ---- rows
@@ -68,15 +68,15 @@ row-under : (sheet : Sheet) (rows : List SheetRow) (k : KeyTexts) (told : Option
 row-under sheet rows k None are is = tt
 row-under sheet rows k (Some row) are is =
     let found : find key_cmp k (under_keys rows) ≡ Some row = sym (under rows k) ∙ sym is in
-    record { row_is = found-good (IsRowOf sheet) rows k row are.each found; key_is = found-key rows k row found }
+    record { row_is = found-good (IsRowOfSheet sheet) rows k row are.each found; key_is = found-key rows k row found }
 
 -- ---- changes
 
 each-own : (limits : Limits) (history : History) (told : List Touched) → Legal (office_of limits history) → AreOwnItems told
-    → AllByRecursion (λ t. IsFoundIn (held_after limits history) (shown t)) told → AllByRecursion IsOwnChange (map change_of told)
+    → AllByRecursion (λ t. IsFoundIn (held_after limits history) (cell_under_key t)) told → AllByRecursion IsOwnChange (map row_change_of told)
 each-own limits history [] legal own found = tt
 each-own limits history (t ∷ told) legal own found =
-    let sheet = sheet_of t.key in (
+    let sheet = sheet_of_key t.key in (
       record {
         key_is = held-key (length history) (held_after limits history) t (held-stands limits history legal) found.0;
         row_is = row-under sheet (published_rows (after limits history) sheet) (key_texts t.key) (row_published t.item) (rows-are limits history sheet)
@@ -85,7 +85,7 @@ each-own limits history (t ∷ told) legal own found =
       each-own limits history told legal own.1 found.1,
     )
 
-pub own_changes : (limits : Limits) (history : History) (changes : Changes) → Legal (office_of limits history) → AreNextChanges limits history changes
+pub own_changes : (limits : Limits) (history : History) (changes : KeyChanges) → Legal (office_of limits history) → AreNextChanges limits history changes
     → AreOwnChanges changes
 own_changes limits history changes legal next = record {
   each = subst (AllByRecursion IsOwnChange) (sym next.are) (each-own limits history next.told legal next.own

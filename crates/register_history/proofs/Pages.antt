@@ -12,7 +12,7 @@ use Rattle.lei_outside.proofs.CellLemmas.{tied}
 use Rattle.register_table.specs.Held.{Held}
 use Rattle.register_history.specs.Damage.{kept_page, made_page, page_bounds}
 use Rattle.register_history.specs.Kept.{AreCellsOf}
-use Rattle.register_history.specs.Standing.{AllStand}
+use Rattle.register_history.specs.Standing.{AreRowCells}
 use Rattle.std.specs.List.{AllByRecursion}
 use Rattle.std.proofs.lemmas.Bool.{leb-false, leb-true}
 use Rattle.register_history.proofs.Cells.{HasKind, cells-made, in_page, kept-paged, made, made-cells, made-kinds, made-number, made-paged, made-sorted, paged}
@@ -115,7 +115,7 @@ places_antisymmetric = slice_cmp-IsAntisymmetric nat_cmp-IsAntisymmetric
 abbrev pub PagesAgree : ℕ → Held → KeptTables → ℕ → Type 0
 PagesAgree last held tables n = (k : ℕ) → k < n → kept_page tables (page_bounds last k) ≡ made_page held (page_bounds last k)
 
-pub pages-cells : (last n : ℕ) (held : Held) (tables : KeptTables) → AllStand last held → AreTouched tables.cells → last ≤ 16 * n → last ≤ 18446744073709551615 → PagesAgree last held tables (n + 1) → AreCellsOf held tables.cells
+pub pages-cells : (last n : ℕ) (held : Held) (tables : KeptTables) → AreRowCells last held → AreTouched tables.cells → last ≤ 16 * n → last ≤ 18446744073709551615 → PagesAgree last held tables (n + 1) → AreCellsOf held tables.cells
 pages-cells last n held tables stand touched all bound agree =
     made-cells last held tables.cells stand
     (same_entries (slice_cmp nat_cmp) nat_list_cmp_total places_antisymmetric (entries tables.cells) (made held) (entries_sorted tables.cells) (made-sorted last held stand)
@@ -151,6 +151,6 @@ pages-cells last n held tables stand touched all bound agree =
         let shown : only p (find (slice_cmp nat_cmp) place (made held)) ≡ Some c = ap (only p) is_b ∙ ap (λ b. cond b (Some c) None) page.2 in
         only-some p (find (slice_cmp nat_cmp) place (entries tables.cells)) c (found-same page.0 place page.1 ∙ shown) ∙ sym is_b
 
-pub cells-pages : (last : ℕ) (held : Held) (tables : KeptTables) (bounds : ℕ × ℕ) → AllStand last held → AreCellsOf held tables.cells → kept_page tables bounds ≡ made_page held bounds
+pub cells-pages : (last : ℕ) (held : Held) (tables : KeptTables) (bounds : ℕ × ℕ) → AreRowCells last held → AreCellsOf held tables.cells → kept_page tables bounds ≡ made_page held bounds
 cells-pages last held tables bounds stand are =
     kept-paged tables bounds ∙ (ap (λ es. map cell_at (paged bounds es)) (cells-made last held tables.cells stand are) ∙ sym (made-paged last held bounds stand))

@@ -24,8 +24,8 @@ use Rattle.register_judge.specs.declared.outcome.Verdict.{Verdict}
 use Rattle.register_table.specs.Held.{no_rows}
 use Rattle.register_words.specs.declared.limits.Limits.{Limits}
 use Rattle.upload_ledger.specs.History.{History, is_upload}
-use Rattle.register_history.specs.Parties.{Change, ChangesArePermitted, ChangesMakeRecords, IsPermitted, changed, changes, changes_by, changes_from, entry_changes, item_changes}
-use Rattle.register_history.specs.Register.{after, after_entry, entry_sitting, items_of, take_items}
+use Rattle.register_history.specs.Parties.{Change, ChangesArePermitted, ChangesMakeRecords, IsPermitted, changes, changes_by, changes_since, entry_changes, item_changes, rows_after}
+use Rattle.register_history.specs.Register.{after, after_entry, entry_items, entry_sitting, take_items}
 use Rattle.register_history.specs.State.{OfficeState}
 
 -- a check passes, and the others do
@@ -115,12 +115,12 @@ items_permitted table sitting (item ∷ items) =
 
 entry_permitted : (limits : Limits) (table : Table) (e : KeptEntry) → All IsPermitted (entry_changes limits table e)
 entry_permitted limits table e =
-    elim (is_upload e) as (λ b. All IsPermitted (cond b (item_changes table (entry_sitting limits e) (items_of e)) [])) [
-      | true ↦ items_permitted table (entry_sitting limits e) (items_of e)
+    elim (is_upload e) as (λ b. All IsPermitted (cond b (item_changes table (entry_sitting limits e) (entry_items e)) [])) [
+      | true ↦ items_permitted table (entry_sitting limits e) (entry_items e)
       | false ↦ All-nil IsPermitted
     ]
 
-entries_permitted : (limits : Limits) (table : Table) (history : History) → All IsPermitted (changes_from limits table history)
+entries_permitted : (limits : Limits) (table : Table) (history : History) → All IsPermitted (changes_since limits table history)
 entries_permitted limits table [] = All-nil IsPermitted
 entries_permitted limits table (e ∷ rest) = All-append IsPermitted _ _ (entry_permitted limits table e) (entries_permitted limits (after_entry limits table e) rest)
 
@@ -130,7 +130,7 @@ all_permitted office = entries_permitted office.limits no_rows office.history
 
 -- ---- the records are the result of the changes
 
-verdict_records : (table : Table) (issuer : Lei) (given : Verdict) (item : Readied) → (put_all (writes_of given item) table).records ≡ fold changed table.records (changes_by table issuer given item)
+verdict_records : (table : Table) (issuer : Lei) (given : Verdict) (item : Readied) → (put_all (writes_of given item) table).records ≡ fold rows_after table.records (changes_by table issuer given item)
 verdict_records table issuer (Verdict.Rejected check) item = refl
 verdict_records table issuer Verdict.Accepted (Readied.Bad check) = refl
 verdict_records table issuer Verdict.Accepted (Readied.Good (Item.Record row)) = refl
@@ -138,29 +138,29 @@ verdict_records table issuer Verdict.Accepted (Readied.Good (Item.Relation row))
 verdict_records table issuer Verdict.Accepted (Readied.Good (Item.Exception (row, true))) = refl
 verdict_records table issuer Verdict.Accepted (Readied.Good (Item.Exception (row, false))) = refl
 
-items_records : (table : Table) (sitting : Sitting) (items : List Readied) → (take table sitting items).table.records ≡ fold changed table.records (item_changes table sitting items)
+items_records : (table : Table) (sitting : Sitting) (items : List Readied) → (take table sitting items).table.records ≡ fold rows_after table.records (item_changes table sitting items)
 items_records table sitting [] = refl
 items_records table sitting (item ∷ items) =
     let given = verdict table sitting item in
     let after_it = put_all (writes_of given item) table in
     let rest = item_changes after_it sitting items in
     items_records after_it sitting items
-    ∙ (ap (λ rows. fold changed rows rest) (verdict_records table sitting.issuer given item) ∙ sym (fold-append changed table.records (changes_by table sitting.issuer given item) rest))
+    ∙ (ap (λ rows. fold rows_after rows rest) (verdict_records table sitting.issuer given item) ∙ sym (fold-append rows_after table.records (changes_by table sitting.issuer given item) rest))
 
-entry_records : (limits : Limits) (table : Table) (e : KeptEntry) → (after_entry limits table e).records ≡ fold changed table.records (entry_changes limits table e)
+entry_records : (limits : Limits) (table : Table) (e : KeptEntry) → (after_entry limits table e).records ≡ fold rows_after table.records (entry_changes limits table e)
 entry_records limits table e =
-    elim (is_upload e) as (λ b. (cond b (take_items limits table e (items_of e)).table table).records
-    ≡ fold changed table.records (cond b (item_changes table (entry_sitting limits e) (items_of e)) [])) [
-      | true ↦ items_records table (entry_sitting limits e) (items_of e)
+    elim (is_upload e) as (λ b. (cond b (take_items limits table e (entry_items e)).table table).records
+    ≡ fold rows_after table.records (cond b (item_changes table (entry_sitting limits e) (entry_items e)) [])) [
+      | true ↦ items_records table (entry_sitting limits e) (entry_items e)
       | false ↦ refl
     ]
 
-entries_records : (limits : Limits) (table : Table) (history : History) → (fold (after_entry limits) table history).records ≡ fold changed table.records (changes_from limits table history)
+entries_records : (limits : Limits) (table : Table) (history : History) → (fold (after_entry limits) table history).records ≡ fold rows_after table.records (changes_since limits table history)
 entries_records limits table [] = refl
 entries_records limits table (e ∷ rest) =
-    let others = changes_from limits (after_entry limits table e) rest in
+    let others = changes_since limits (after_entry limits table e) rest in
     entries_records limits (after_entry limits table e) rest
-    ∙ (ap (λ rows. fold changed rows others) (entry_records limits table e) ∙ sym (fold-append changed table.records (entry_changes limits table e) others))
+    ∙ (ap (λ rows. fold rows_after rows others) (entry_records limits table e) ∙ sym (fold-append rows_after table.records (entry_changes limits table e) others))
 
 pub all_records : (office : OfficeState) → ChangesMakeRecords office
 unfolding changes after

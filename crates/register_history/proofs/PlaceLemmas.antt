@@ -9,16 +9,16 @@ use Rattle.lei_code.proofs.Places.{code_is_ascii}
 use Rattle.lei_shapes.specs.declared.lists.ExceptionCategory.{ExceptionCategory}
 use Rattle.lei_shapes.specs.declared.lists.RelationType.{RelationType}
 use Rattle.lei_shapes.specs.Lists.{exception_category_text, relation_type_text}
-use Rattle.lei_outside.specs.Keeping.{place_of}
+use Rattle.lei_outside.specs.Keeping.{cell_place}
 use Rattle.lei_records.specs.declared.view.RowKey.{RowKey}
 use Rattle.register_table.specs.declared.touched.Touched.{Touched}
 use Rattle.register_table.specs.Held.{cell_key}
-use Rattle.register_history.specs.Kept.{IsKey, kept_cell, kind_of, name_of, place_in}
+use Rattle.register_history.specs.Kept.{IsKey, kept_cell, key_kind, key_name, place_in}
 
 -- the place of a kept cell is that of its key
-pub place-kept : (told : Touched) → place_of (kept_cell told) ≡ place_in (cell_key told.key)
+pub place-kept : (told : Touched) → cell_place (kept_cell told) ≡ place_in (cell_key told.key)
 place-kept told = by_key told.key where
-  by_key : (key : RowKey) → kind_of key ∷ name_of key ≡ place_in (cell_key key)
+  by_key : (key : RowKey) → key_kind key ∷ key_name key ≡ place_in (cell_key key)
   by_key (RowKey.Rec lei) = refl
   by_key (RowKey.Rel start kind end) = refl
   by_key (RowKey.Exc lei category) = refl
@@ -164,7 +164,7 @@ lei_ascii lei valid = code_is_ascii lei valid.characters
 lei_all : (lei : List ℕ) → IsValid lei → all_ascii lei ≡ true
 lei_all lei valid = ascii_all lei (lei_ascii lei valid)
 
-pub name_ascii : (key : RowKey) → IsKey key → IsAscii (name_of key)
+pub name_ascii : (key : RowKey) → IsKey key → IsAscii (key_name key)
 name_ascii (RowKey.Rec lei) is = lei_ascii lei is
 name_ascii (RowKey.Rel start kind end) is =
     all_is_ascii _ (joined_ascii start (relation_type_text kind ++ 32 ∷ end) (lei_all start is.0)

@@ -9,23 +9,23 @@ use Rattle.std.proofs.lemmas.List.Elements.{All-cons, All-nil}
 use Rattle.lei_outside.specs.declared.entry.KeptEntry.{KeptEntry}
 use Rattle.lei_records.specs.Cells.{lei_in}
 use Rattle.lei_records.specs.Rows.{Row}
-use Rattle.lei_records.specs.Tables.{IsSound, KeyTexts, Table, record_key}
+use Rattle.lei_records.specs.Tables.{IsSoundTable, KeyTexts, Table, record_key}
 use Rattle.lei_records.specs.declared.view.RowKey.{RowKey}
 use Rattle.register_words.specs.declared.limits.Limits.{Limits}
 use Rattle.register_words.specs.declared.sheets.Sheet.{Sheet}
-use Rattle.copy_csv.specs.Sheets.{SheetRow, fits, row_of}
+use Rattle.copy_csv.specs.Sheets.{SheetRow, fits, row_of_texts}
 use Rattle.copy_forms.specs.Trails.{Trail, nothing_published}
-use Rattle.golden_shelf.specs.Changes.{ArePlain, Changes, in_sheet}
-use Rattle.golden_shelf.specs.Keys.{is_of, key_texts}
+use Rattle.golden_shelf.specs.Changes.{ArePlain, KeyChanges, in_sheet}
+use Rattle.golden_shelf.specs.Keys.{is_key_of, key_texts}
 use Rattle.golden_shelf.specs.Shelves.{latest, latest_or_nothing}
 use Rattle.register_judge.specs.Fitting.{EachRecord}
-use Rattle.register_table.specs.Touched.{shown}
+use Rattle.register_table.specs.Touched.{cell_under_key}
 use Rattle.register_table.specs.Cells.{AreOwnItems}
 use Rattle.register_table.specs.declared.touched.Touched.{Touched}
 use Rattle.upload_ledger.specs.History.{History, is_publication, last_entry}
 use Rattle.register_history.specs.Legal.{Legal, LegalAfter, last_rules}
-use Rattle.register_history.specs.Publications.{is_wide, last_published, publication_by, published_rows, rows_in, trail}
-use Rattle.register_history.specs.Publishing.{AreNextChanges, change_of, row_published}
+use Rattle.register_history.specs.Publications.{are_wide_rules, last_published, publication_by, published_rows, sheet_rows, trail}
+use Rattle.register_history.specs.Publishing.{AreNextChanges, row_change_of, row_published}
 use Rattle.register_history.specs.Register.{after, held_after}
 use Rattle.register_history.specs.State.{OfficeState, office_of}
 use Rattle.register_history.proofs.Chained.{NoEvent, legal-plain}
@@ -71,7 +71,7 @@ latest-wide limits history legal = wide-from limits [] history legal (none-wide 
 
 -- no narrow publication comes after a wide one
 pub never-narrows : (limits : Limits) (history : History) (rules : ℕ) → Legal (office_of limits history) → last_rules (last_entry history) ≤ rules
-    → (latest_or_nothing (trail (office_of limits history))).wide ≡ true → is_wide rules ≡ true
+    → (latest_or_nothing (trail (office_of limits history))).wide ≡ true → are_wide_rules rules ≡ true
 never-narrows limits history rules legal rising wide =
     let low = latest-wide limits history legal wide in
     grind (arith, nat_tests)
@@ -83,54 +83,54 @@ abbrev Plain : SheetRow → Type 0
 Plain row = IsTrue (fits false row)
 
 -- the rules of a narrow publication, and those of the entry before it, are the first or the second
-narrow-rules : (before rules : ℕ) → before ≤ rules → is_wide rules ≡ false → before ≤ 2
+narrow-rules : (before rules : ℕ) → before ≤ rules → are_wide_rules rules ≡ false → before ≤ 2
 narrow-rules before rules rising narrow = grind (arith, nat_tests)
 
 row-plain : (limits : Limits) (history : History) (k : KeyTexts) (row : Row) → EachRecord NoEvent (after limits history)
-    → get (rows_in (after limits history) Sheet.Lei) k ≡ Some row → Plain (row_of Sheet.Lei row)
+    → get (sheet_rows (after limits history) Sheet.Lei) k ≡ Some row → Plain (row_of_texts Sheet.Lei row)
 row-plain limits history k row plain at =
     let keyed : k ≡ record_key (lei_in row) = (after-fit limits history).sound.keyed k row at in
-    plain (lei_in row) row (subst (λ own. get (rows_in (after limits history) Sheet.Lei) own ≡ Some row) keyed at)
+    plain (lei_in row) row (subst (λ own. get (sheet_rows (after limits history) Sheet.Lei) own ≡ Some row) keyed at)
 
-all-plain : (es : List (KeyTexts × Row)) → AllByRecursion (λ e. Plain (row_of Sheet.Lei e.1)) es → All Plain (rows_listed Sheet.Lei es)
+all-plain : (es : List (KeyTexts × Row)) → AllByRecursion (λ e. Plain (row_of_texts Sheet.Lei e.1)) es → All Plain (rows_listed Sheet.Lei es)
 all-plain [] are = All-nil Plain
-all-plain (e ∷ es) are = All-cons Plain (row_of Sheet.Lei e.1) (rows_listed Sheet.Lei es) are.0 (all-plain es are.1)
+all-plain (e ∷ es) are = All-cons Plain (row_of_texts Sheet.Lei e.1) (rows_listed Sheet.Lei es) are.0 (all-plain es are.1)
 
 pub rows-plain : (limits : Limits) (history : History) (rules : ℕ) → Legal (office_of limits history) → last_rules (last_entry history) ≤ rules
-    → is_wide rules ≡ false → All Plain (published_rows (after limits history) Sheet.Lei)
+    → are_wide_rules rules ≡ false → All Plain (published_rows (after limits history) Sheet.Lei)
 rows-plain limits history rules legal rising narrow =
-    let held = rows_in (after limits history) Sheet.Lei in
+    let held = sheet_rows (after limits history) Sheet.Lei in
     let plain = legal-plain limits history legal (narrow-rules (last_rules (last_entry history)) rules rising narrow) in
-    all-plain (entries held) (each-found (λ k row. Plain (row_of Sheet.Lei row)) (entries held) (entries_sorted held)
+    all-plain (entries held) (each-found (λ k row. Plain (row_of_texts Sheet.Lei row)) (entries held) (entries_sorted held)
     (λ k row found. row-plain limits history k row plain (get-entries held k ∙ found)))
 
 -- ---- and its changes
 
 told-plain : (limits : Limits) (history : History) (t : Touched) → EachRecord NoEvent (after limits history)
-    → IsToldBy Sheet.Lei (published_rows (after limits history) Sheet.Lei) t → is_of Sheet.Lei t.key ≡ true → IfSome (row_published t.item) Plain
+    → IsToldBy Sheet.Lei (published_rows (after limits history) Sheet.Lei) t → is_key_of Sheet.Lei t.key ≡ true → IfSome (row_published t.item) Plain
 told-plain limits history t plain told own =
     subst (λ row. IfSome row Plain) (sym (told own ∙ rows-found (after limits history) Sheet.Lei (key_texts t.key) (after-fit limits history).sound))
-    (by (get (rows_in (after limits history) Sheet.Lei) (key_texts t.key)) refl)
+    (by (get (sheet_rows (after limits history) Sheet.Lei) (key_texts t.key)) refl)
   where
-    by : (found : Option Row) → get (rows_in (after limits history) Sheet.Lei) (key_texts t.key) ≡ found → IfSome (published_row Sheet.Lei found) Plain
+    by : (found : Option Row) → get (sheet_rows (after limits history) Sheet.Lei) (key_texts t.key) ≡ found → IfSome (published_row Sheet.Lei found) Plain
     by None is = tt
     by (Some row) is = row-plain limits history (key_texts t.key) row plain is
 
 each-plain : (limits : Limits) (history : History) (told : List Touched) → EachRecord NoEvent (after limits history)
-    → AllByRecursion (IsToldBy Sheet.Lei (published_rows (after limits history) Sheet.Lei)) told → ArePlain (map change_of told)
+    → AllByRecursion (IsToldBy Sheet.Lei (published_rows (after limits history) Sheet.Lei)) told → ArePlain (map row_change_of told)
 each-plain limits history [] plain each = tt
-each-plain limits history (t ∷ told) plain each = by (is_of Sheet.Lei t.key) refl (each-plain limits history told plain each.1)
+each-plain limits history (t ∷ told) plain each = by (is_key_of Sheet.Lei t.key) refl (each-plain limits history told plain each.1)
   where
-    rest : Changes
-    rest = in_sheet Sheet.Lei (map change_of told)
+    rest : KeyChanges
+    rest = in_sheet Sheet.Lei (map row_change_of told)
 
-    by : (b : Bool) → is_of Sheet.Lei t.key ≡ b → ArePlain (map change_of told)
-        → AllByRecursion (λ (c : RowKey × Option SheetRow). IfSome c.1 Plain) (cond b (change_of t ∷ rest) rest)
+    by : (b : Bool) → is_key_of Sheet.Lei t.key ≡ b → ArePlain (map row_change_of told)
+        → AllByRecursion (λ (c : RowKey × Option SheetRow). IfSome c.1 Plain) (cond b (row_change_of t ∷ rest) rest)
     by true own later = (told-plain limits history t plain each.0 own, later)
     by false other later = later
 
-pub changes-plain : (limits : Limits) (history : History) (changes : Changes) (rules : ℕ) → Legal (office_of limits history) → last_rules (last_entry history) ≤ rules
-    → AreNextChanges limits history changes → is_wide rules ≡ false → ArePlain changes
+pub changes-plain : (limits : Limits) (history : History) (changes : KeyChanges) (rules : ℕ) → Legal (office_of limits history) → last_rules (last_entry history) ≤ rules
+    → AreNextChanges limits history changes → are_wide_rules rules ≡ false → ArePlain changes
 changes-plain limits history changes rules legal rising next narrow =
     let plain = legal-plain limits history legal (narrow-rules (last_rules (last_entry history)) rules rising narrow) in
     let found = told-found (last_published history) (length history) (held_after limits history) next.told next.touched in

@@ -14,25 +14,25 @@ use Rattle.upload_format.specs.Bodies.{of_items, of_value, upload, value_of}
 use Rattle.register_words.specs.declared.malformed.Malformed.{Malformed}
 use Rattle.register_words.specs.declared.malformed.Malformed.TheVariants.{NoItems, TooManyItems}
 use Rattle.lei_records.specs.Cells.{lei_in, rec_cell}
-use Rattle.lei_records.specs.Items.{failed_check, ready, readied}
+use Rattle.lei_records.specs.Items.{failed_check, ready, readied_as}
 use Rattle.lei_records.specs.Relations.{end_in, is_active_of}
 use Rattle.lei_records.specs.declared.fields.Kind.{Kind}
 use Rattle.lei_shapes.specs.declared.lists.RelationType.{RelationType}
 use Rattle.lei_records.specs.Rows.{Row}
-use Rattle.lei_records.specs.Tables.{Table, key_cmp, record_key, put, put_all, put_write, row_at, row_key, active_of, relations_of, record_count, IsSound}
+use Rattle.lei_records.specs.Tables.{Table, key_cmp, record_key, put, put_all, put_write, row_at, row_key, active_of, relations_of, record_count, IsSoundTable}
 use Rattle.lei_records.specs.declared.item.Item.{Item}
 use Rattle.lei_records.specs.declared.item.RawItem.{RawItem}
 use Rattle.lei_records.specs.declared.item.Readied.{Readied}
 use Rattle.lei_records.specs.declared.view.CellKey.{CellKey}
-use Rattle.lei_records.proofs.RowLemmas.{IsRowOf-row_of}
+use Rattle.lei_records.proofs.RowLemmas.{IsRowOfKind-row_of}
 use Rattle.lei_records.specs.Checks.{FailedCheck, first_failing}
 use Rattle.lei_records.specs.Parents.{parent_type, parents_of}
-use Rattle.relation_rules.specs.Parents.{AreApart, ParentChainsEnd}
+use Rattle.relation_rules.specs.Parents.{ExceptionsExcludeParents, ParentChainsEnd}
 use Rattle.authority_rules.proofs.MapLemmas.{find-values}
 use Rattle.successor_rules.specs.Chains.{EndsIn}
 use Rattle.register_judge.specs.Checks.{earlier_checks, last_checks, record_checks}
 use Rattle.register_judge.specs.declared.sitting.Sitting.{Sitting}
-use Rattle.register_judge.specs.Taking.{Taken, take, in_front, is_new_record, verdict_of, written, writes_of, item_checks, HasRow, HaveRows}
+use Rattle.register_judge.specs.Taking.{Taken, take, in_front, is_new_record, verdict_of, item_after, writes_of, item_checks, HasRow, HaveRows}
 use Rattle.register_judge.specs.declared.outcome.JudgeStop.{JudgeStop}
 use Rattle.register_judge.specs.declared.outcome.Outcome.{Outcome}
 use Rattle.register_judge.proofs.ParentLemmas.{take-apart, take-parents}
@@ -41,7 +41,7 @@ use Rattle.register_table.specs.Held.{no_rows}
 use Rattle.register_table.specs.Undos.{AreOwn, IsOwn, StaysKept}
 use Rattle.register_words.specs.declared.limits.Limits.{Limits}
 use Rattle.upload_ledger.specs.History.{History}
-use Rattle.register_history.specs.Register.{after, after_entry, entry_sitting, items_in, items_of, take_items}
+use Rattle.register_history.specs.Register.{after, after_entry, entry_items, entry_sitting, readied_items, take_items}
 use Rattle.register_history.proofs.Passing.{passing, passing_behind}
 use Rattle.lei_records.specs.RuleNumbers.{rules_of}
 use Rattle.lei_records.specs.declared.rules.Rules.{Rules}
@@ -51,20 +51,20 @@ keys_total = lists_total nat_list_cmp_total
 
 -- ---- items have rows
 
-readied-rows : (rules : Rules) (kind : Kind) (pairs : List (List ℕ × List ℕ)) (failed : Option FailedCheck) (items : List Readied) → failed_check rules kind pairs ≡ failed → HaveRows items
-    → HaveRows (readied kind pairs failed ∷ items)
-readied-rows rules Kind.Record pairs None items passes rows = (IsRowOf-row_of rules Kind.Record pairs passes, rows)
-readied-rows rules Kind.Relation pairs None items passes rows = (IsRowOf-row_of rules Kind.Relation pairs passes, rows)
-readied-rows rules Kind.Exception pairs None items passes rows = (IsRowOf-row_of rules Kind.Exception pairs passes, rows)
-readied-rows rules kind pairs (Some check) items fails rows = rows
+readied_as-rows : (rules : Rules) (kind : Kind) (pairs : List (List ℕ × List ℕ)) (failed : Option FailedCheck) (items : List Readied) → failed_check rules kind pairs ≡ failed → HaveRows items
+    → HaveRows (readied_as kind pairs failed ∷ items)
+readied_as-rows rules Kind.Record pairs None items passes rows = (IsRowOfKind-row_of rules Kind.Record pairs passes, rows)
+readied_as-rows rules Kind.Relation pairs None items passes rows = (IsRowOfKind-row_of rules Kind.Relation pairs passes, rows)
+readied_as-rows rules Kind.Exception pairs None items passes rows = (IsRowOfKind-row_of rules Kind.Exception pairs passes, rows)
+readied_as-rows rules kind pairs (Some check) items fails rows = rows
 
 pub ready-rows : (rules : Rules) (raws : List RawItem) → HaveRows (map (ready rules) raws)
 ready-rows rules [] = tt
-ready-rows rules (RawItem.Record pairs ∷ raws) = readied-rows rules Kind.Record pairs (failed_check rules Kind.Record pairs) (map (ready rules) raws) refl (ready-rows rules raws)
-ready-rows rules (RawItem.Relation pairs ∷ raws) = readied-rows rules Kind.Relation pairs (failed_check rules Kind.Relation pairs) (map (ready rules) raws) refl (ready-rows rules raws)
-ready-rows rules (RawItem.Exception pairs ∷ raws) = readied-rows rules Kind.Exception pairs (failed_check rules Kind.Exception pairs) (map (ready rules) raws) refl (ready-rows rules raws)
+ready-rows rules (RawItem.Record pairs ∷ raws) = readied_as-rows rules Kind.Record pairs (failed_check rules Kind.Record pairs) (map (ready rules) raws) refl (ready-rows rules raws)
+ready-rows rules (RawItem.Relation pairs ∷ raws) = readied_as-rows rules Kind.Relation pairs (failed_check rules Kind.Relation pairs) (map (ready rules) raws) refl (ready-rows rules raws)
+ready-rows rules (RawItem.Exception pairs ∷ raws) = readied_as-rows rules Kind.Exception pairs (failed_check rules Kind.Exception pairs) (map (ready rules) raws) refl (ready-rows rules raws)
 
-pub read-rows : (rules : Rules) (read : Result (List RawItem) Malformed) → HaveRows (items_in rules read)
+pub read-rows : (rules : Rules) (read : Result (List RawItem) Malformed) → HaveRows (readied_items rules read)
 read-rows rules (Ok raws) = ready-rows rules raws
 read-rows rules (Err fault) = tt
 
@@ -72,17 +72,17 @@ read-rows rules (Err fault) = tt
 
 -- the table after what it writes
 abbrev with_item : Table → Item → Table
-with_item table item = put_write table (row_key item, written item)
+with_item table item = put_write table (row_key item, item_after item)
 
 -- is sound
-item-sound : (table : Table) (sitting : Sitting) (item : Item) → IsSound table → HasRow item
-    → first_failing (item_checks table sitting item) ≡ None → IsSound (with_item table item)
+item-sound : (table : Table) (sitting : Sitting) (item : Item) → IsSoundTable table → HasRow item
+    → first_failing (item_checks table sitting item) ≡ None → IsSoundTable (with_item table item)
 item-sound table sitting item sound row passes =
-    let P : Option FailedCheck → Type 0 = λ failed. IsSound (put_all (writes_of (verdict_of failed) (Readied.Good item)) table) in
+    let P : Option FailedCheck → Type 0 = λ failed. IsSoundTable (put_all (writes_of (verdict_of failed) (Readied.Good item)) table) in
     subst P passes (take-sound table sitting (Readied.Good item ∷ []) sound (row, tt))
 
 -- it is written under its own key
-item-own : (item : Item) → IsOwn (row_key item, written item)
+item-own : (item : Item) → IsOwn (row_key item, item_after item)
 item-own (Item.Record row) = (refl, refl)
 item-own (Item.Relation row) = (refl, refl)
 item-own (Item.Exception (row, true)) = tt
@@ -122,7 +122,7 @@ with_first table sitting item items failed =
     let writes = writes_of (verdict_of failed) (Readied.Good item) in
     in_front (verdict_of failed) writes (is_new_record table sitting (Readied.Good item)) (take (put_all writes table) sitting items)
 
-pub may_put : (table : Table) (sitting : Sitting) (items : List Readied) → IsSound table → record_count table ≤ sitting.limit → HaveRows items
+pub may_put : (table : Table) (sitting : Sitting) (items : List Readied) → IsSoundTable table → record_count table ≤ sitting.limit → HaveRows items
     → MayPut table sitting.limit (take table sitting items)
 may_put table sitting [] sound fits rows = record { own = tt; kept = λ bound. tt; fits = fits }
 may_put table sitting (Readied.Bad check ∷ items) sound fits rows =
@@ -148,20 +148,20 @@ may_put table sitting (Readied.Good item ∷ items) sound fits rows =
 -- ---- the table after a history
 
 pub record IsFit (limit : ℕ) (table : Table) : Type 0 where
-  pub sound : IsSound table
+  pub sound : IsSoundTable table
   pub fits : record_count table ≤ limit
   pub parents : ParentChainsEnd table
-  pub apart : AreApart table
+  pub apart : ExceptionsExcludeParents table
 
 pub entry-fit : (limits : Limits) (table : Table) (e : KeptEntry) → IsFit limits.records table → IsFit limits.records (after_entry limits table e)
 entry-fit limits table e fit =
     let rows = read-rows (rules_of e.rules) (upload e.body) in
-    elim (e.kind == 2) as (λ b. IsFit limits.records (cond b (take_items limits table e (items_of e)).table table)) [
+    elim (e.kind == 2) as (λ b. IsFit limits.records (cond b (take_items limits table e (entry_items e)).table table)) [
       | true ↦ record {
-        sound = take-sound table (entry_sitting limits e) (items_of e) fit.sound rows;
-        fits = (may_put table (entry_sitting limits e) (items_of e) fit.sound fit.fits rows).fits;
-        parents = take-parents table (entry_sitting limits e) (items_of e) fit.sound fit.parents rows;
-        apart = take-apart table (entry_sitting limits e) (items_of e) fit.sound fit.apart rows;
+        sound = take-sound table (entry_sitting limits e) (entry_items e) fit.sound rows;
+        fits = (may_put table (entry_sitting limits e) (entry_items e) fit.sound fit.fits rows).fits;
+        parents = take-parents table (entry_sitting limits e) (entry_items e) fit.sound fit.parents rows;
+        apart = take-apart table (entry_sitting limits e) (entry_items e) fit.sound fit.apart rows;
       }
       | false ↦ fit
     ]
@@ -221,21 +221,21 @@ no_cell_wanted P (Err stop) key takes is =
 
 -- ---- an upload has at most 5,000 items
 
-counted-within : (none many : Bool) (raws items : List RawItem) → nat_lt 5000 (length raws) ≡ many → cond none (Err NoItems) (cond many (Err TooManyItems) (Ok raws)) ≡ Ok items → length items ≤ 5000
-counted-within true many raws items is counted = cc
-counted-within false true raws items is counted = cc
-counted-within false false raws items is counted =
+if_countable-within : (none many : Bool) (raws items : List RawItem) → nat_lt 5000 (length raws) ≡ many → cond none (Err NoItems) (cond many (Err TooManyItems) (Ok raws)) ≡ Ok items → length items ≤ 5000
+if_countable-within true many raws items is counted = cc
+if_countable-within false true raws items is counted = cc
+if_countable-within false false raws items is counted =
     let same : raws ≡ items = cc in
     let L : List RawItem → Type 0 = λ l. length l ≤ 5000 in
     subst L same (ltb-false 5000 (length raws) is)
 
 items-within : (found : Option (List RawItem)) (items : List RawItem) → of_items found ≡ Ok items → length items ≤ 5000
 items-within None items is = cc
-items-within (Some raws) items is = counted-within (length raws == 0) (nat_lt 5000 (length raws)) raws items refl is
+items-within (Some raws) items is = if_countable-within (length raws == 0) (nat_lt 5000 (length raws)) raws items refl is
 
 value-within : (value : Option Data) (items : List RawItem) → of_value value ≡ Ok items → length items ≤ 5000
 value-within None items is = cc
-value-within (Some value) items is = items-within (bodies.items_of value) items is
+value-within (Some value) items is = items-within (bodies.upload_items value) items is
 
 pub upload-within : (body : List ℕ) (items : List RawItem) → upload body ≡ Ok items → length items ≤ 5000
 unfolding upload

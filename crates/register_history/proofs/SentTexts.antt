@@ -23,7 +23,7 @@ use Rattle.lei_shapes.specs.Moment.{IsMoment, is_moment, moment_of_instant, read
 use Rattle.lei_shapes.proofs.MomentLemmas.{IsAscii-moment_text}
 use Rattle.lei_records.specs.Checks.{FailedCheck, first_failing}
 use Rattle.lei_records.specs.Fields.{Field, row_fields}
-use Rattle.lei_records.specs.Items.{failed_check, printed, ready, readied, row_of, row_text, text_of}
+use Rattle.lei_records.specs.Items.{failed_check, text_in_row, ready, readied_as, row_of, row_text, text_under}
 use Rattle.lei_records.specs.Rows.{Row}
 use Rattle.lei_records.specs.Spelled.{is_absent}
 use Rattle.lei_records.specs.Tables.{KeyTexts, Table, key_cmp, put_all, put_write, row_key}
@@ -34,16 +34,16 @@ use Rattle.lei_records.specs.declared.item.RawItem.{RawItem}
 use Rattle.lei_records.specs.declared.item.Readied.{Readied}
 use Rattle.lei_records.specs.declared.view.RowKey.{RowKey}
 use Rattle.register_judge.specs.declared.sitting.Sitting.{Sitting}
-use Rattle.register_judge.specs.Taking.{Taken, in_front, is_new_record, item_checks, take, verdict_of, writes_of, written}
+use Rattle.register_judge.specs.Taking.{Taken, in_front, is_new_record, item_after, item_checks, take, verdict_of, writes_of}
 use Rattle.register_table.specs.Held.{Cell, Held, cell_key, rows}
-use Rattle.register_table.specs.Undos.{WriteList, cell_of, touch, touch_all, row_of as item_row}
+use Rattle.register_table.specs.Undos.{WriteList, cell_with, touch, touch_all, row_in_item as item_row}
 use Rattle.upload_format.specs.Bodies as bodies
-use Rattle.upload_format.specs.Bodies.{behind, fields_of, is_list_name, list_of, listed, member_names, of_items, of_value, sent, upload, value_of}
+use Rattle.upload_format.specs.Bodies.{append_read, is_list_name, items_under, list_of, member_names, of_items, of_value, raw_item, text_members, upload, value_of}
 use Rattle.register_words.specs.declared.malformed.Malformed.{Malformed}
 use Rattle.register_words.specs.declared.malformed.Malformed.TheVariants.{NoItems, TooManyItems}
 use Rattle.upload_ledger.specs.History.{History}
 use Rattle.register_words.specs.declared.limits.Limits.{Limits}
-use Rattle.register_history.specs.Register.{entry_sitting, entry_writes, held_after, held_after_entry, items_in, items_of, take_items}
+use Rattle.register_history.specs.Register.{entry_items, entry_sitting, entry_writes, held_after, held_after_entry, readied_items, take_items}
 use Rattle.upload_format.proofs.JsonTexts.{AreTexts, If, ItemsAreTexts, MembersAreTexts, read-texts}
 use Rattle.lei_records.specs.RuleNumbers.{rules_of}
 use Rattle.lei_records.specs.declared.rules.Rules.{Rules}
@@ -94,33 +94,33 @@ mapped : {A B : Type 0} (P : A → Type 0) (Q : B → Type 0) (f : A → B) (fou
 mapped P Q f None is then = tt
 mapped P Q f (Some a) is then = then a is
 
-fields-texts : (ms : Members) → MembersAreTexts ms → If ArePairs (fields_of ms)
+fields-texts : (ms : Members) → MembersAreTexts ms → If ArePairs (text_members ms)
 fields-texts values.no_members are = tt
 fields-texts (values.member name value others) are =
     let rest = fields-texts others are.1 in
-    by-way IsUtf8 ArePairs (λ text. option_map (λ fields. (name, text) ∷ fields) (fields_of others)) (as_str value) (str-text value are.0)
-    (λ text is. mapped ArePairs ArePairs (λ fields. (name, text) ∷ fields) (fields_of others) rest (λ fields all. (is, all)))
+    by-way IsUtf8 ArePairs (λ text. option_map (λ fields. (name, text) ∷ fields) (text_members others)) (as_str value) (str-text value are.0)
+    (λ text is. mapped ArePairs ArePairs (λ fields. (name, text) ∷ fields) (text_members others) rest (λ fields all. (is, all)))
 
-sent-texts : (kind : Kind) (pairs : List (Text × Text)) → ArePairs pairs → IsSent (sent kind pairs)
-sent-texts Kind.Record pairs are = are
-sent-texts Kind.Relation pairs are = are
-sent-texts Kind.Exception pairs are = are
+raw_item-texts : (kind : Kind) (pairs : List (Text × Text)) → ArePairs pairs → IsSent (raw_item kind pairs)
+raw_item-texts Kind.Record pairs are = are
+raw_item-texts Kind.Relation pairs are = are
+raw_item-texts Kind.Exception pairs are = are
 
-item-texts : (kind : Kind) (value : Data) → AreTexts value → If IsSent (bodies.item_of kind value)
+item-texts : (kind : Kind) (value : Data) → AreTexts value → If IsSent (bodies.raw_item_of kind value)
 item-texts kind value are =
-    mapped ArePairs IsSent (sent kind) (option_and_then fields_of (as_object value))
-    (by-way MembersAreTexts ArePairs fields_of (as_object value) (object-texts value are) fields-texts) (sent-texts kind)
+    mapped ArePairs IsSent (raw_item kind) (option_and_then text_members (as_object value))
+    (by-way MembersAreTexts ArePairs text_members (as_object value) (object-texts value are) fields-texts) (raw_item-texts kind)
 
 list-texts : (kind : Kind) (ds : Items) → ItemsAreTexts ds → If AreSent (list_of kind ds)
 list-texts kind values.no_items are = tt
 list-texts kind (values.item value others) are =
     let rest = list-texts kind others are.1 in
-    by-way IsSent AreSent (λ first. option_map (λ more. first ∷ more) (list_of kind others)) (bodies.item_of kind value) (item-texts kind value are.0)
+    by-way IsSent AreSent (λ first. option_map (λ more. first ∷ more) (list_of kind others)) (bodies.raw_item_of kind value) (item-texts kind value are.0)
     (λ first is. mapped AreSent AreSent (λ more. first ∷ more) (list_of kind others) rest (λ more all. (is, all)))
 
-listed-texts : (kind : Kind) (found : Option Data) → If AreTexts found → If AreSent (listed kind found)
-listed-texts kind None are = tt
-listed-texts kind (Some value) are = by-way ItemsAreTexts AreSent (list_of kind) (as_array value) (array-texts value are) (list-texts kind)
+items_under-texts : (kind : Kind) (found : Option Data) → If AreTexts found → If AreSent (items_under kind found)
+items_under-texts kind None are = tt
+items_under-texts kind (Some value) are = by-way ItemsAreTexts AreSent (list_of kind) (as_array value) (array-texts value are) (list-texts kind)
 
 member-texts : (k : Text) (ms : Members) → MembersAreTexts ms → If AreTexts (get_member k ms)
 member-texts k values.no_members are = tt
@@ -135,22 +135,22 @@ append-sent : (front list : List RawItem) → AreSent front → AreSent list →
 append-sent [] list of_front of_list = of_list
 append-sent (raw ∷ front) list of_front of_list = (of_front.0, append-sent front list of_front.1 of_list)
 
-behind-sent : (front list : Option (List RawItem)) → If AreSent front → If AreSent list → If AreSent (behind front list)
-behind-sent None list of_front of_list = tt
-behind-sent (Some front) None of_front of_list = tt
-behind-sent (Some front) (Some list) of_front of_list = append-sent front list of_front of_list
+append_read-sent : (front list : Option (List RawItem)) → If AreSent front → If AreSent list → If AreSent (append_read front list)
+append_read-sent None list of_front of_list = tt
+append_read-sent (Some front) None of_front of_list = tt
+append_read-sent (Some front) (Some list) of_front of_list = append-sent front list of_front of_list
 
-items-sent : (ms : Members) → MembersAreTexts ms → If AreSent (bodies.items_in ms)
+items-sent : (ms : Members) → MembersAreTexts ms → If AreSent (bodies.items_of_members ms)
 items-sent ms are =
-    let part = λ (kind : Kind). listed-texts kind (get_member (bodies.list_name kind) ms) (member-texts (bodies.list_name kind) ms are) in
-    behind-sent _ _ (behind-sent _ _ (behind-sent (Some []) _ tt (part Kind.Record)) (part Kind.Relation)) (part Kind.Exception)
+    let part = λ (kind : Kind). items_under-texts kind (get_member (bodies.list_name kind) ms) (member-texts (bodies.list_name kind) ms are) in
+    append_read-sent _ _ (append_read-sent _ _ (append_read-sent (Some []) _ tt (part Kind.Record)) (part Kind.Relation)) (part Kind.Exception)
 
-value-sent : (value : Data) → AreTexts value → If AreSent (bodies.items_of value)
+value-sent : (value : Data) → AreTexts value → If AreSent (bodies.upload_items value)
 value-sent value are =
-    by-way MembersAreTexts AreSent (λ ms. cond (list_all is_list_name (member_names ms)) (bodies.items_in ms) None) (as_object value) (object-texts value are)
+    by-way MembersAreTexts AreSent (λ ms. cond (list_all is_list_name (member_names ms)) (bodies.items_of_members ms) None) (as_object value) (object-texts value are)
     (λ ms all. by (list_all is_list_name (member_names ms)) ms (items-sent ms all))
   where
-    by : (b : Bool) (ms : Members) → If AreSent (bodies.items_in ms) → If AreSent (cond b (bodies.items_in ms) None)
+    by : (b : Bool) (ms : Members) → If AreSent (bodies.items_of_members ms) → If AreSent (cond b (bodies.items_of_members ms) None)
     by true ms is = is
     by false ms is = tt
 
@@ -159,18 +159,18 @@ abbrev IfOkSent : Result (List RawItem) Malformed → Type 0
 IfOkSent (Ok raws) = AreSent raws
 IfOkSent (Err fault) = Unit {0}
 
-counted-sent : (none many : Bool) (raws : List RawItem) → AreSent raws → IfOkSent (cond none (Err NoItems) (cond many (Err TooManyItems) (Ok raws)))
-counted-sent true many raws are = tt
-counted-sent false true raws are = tt
-counted-sent false false raws are = are
+if_countable-sent : (none many : Bool) (raws : List RawItem) → AreSent raws → IfOkSent (cond none (Err NoItems) (cond many (Err TooManyItems) (Ok raws)))
+if_countable-sent true many raws are = tt
+if_countable-sent false true raws are = tt
+if_countable-sent false false raws are = are
 
-found-sent : (found : Option (List RawItem)) → If AreSent found → IfOkSent (of_items found)
-found-sent None are = tt
-found-sent (Some raws) are = counted-sent (length raws == 0) (nat_lt 5000 (length raws)) raws are
+or_no_upload-sent : (found : Option (List RawItem)) → If AreSent found → IfOkSent (of_items found)
+or_no_upload-sent None are = tt
+or_no_upload-sent (Some raws) are = if_countable-sent (length raws == 0) (nat_lt 5000 (length raws)) raws are
 
 of-value-sent : (found : Option Data) → If AreTexts found → IfOkSent (of_value found)
 of-value-sent None are = tt
-of-value-sent (Some value) are = found-sent (bodies.items_of value) (value-sent value are)
+of-value-sent (Some value) are = or_no_upload-sent (bodies.upload_items value) (value-sent value are)
 
 value-texts : (body : List ℕ) → If AreTexts (value_of body)
 unfolding value_of
@@ -194,9 +194,9 @@ upload-sent body = of-value-sent (value_of body) (value-texts body)
 abbrev pub AreUtf8 : Row → Type 0
 AreUtf8 = AllByRecursion IsUtf8
 
-found-text : (test : Text → Bool) (pairs : List (Text × Text)) → ArePairs pairs → IsUtf8 (unwrap_or (lookup test pairs) [])
-found-text test [] are = IsUtf8-nil
-found-text test (p ∷ pairs) are = by (test p.0) (found-text test pairs are.1)
+or_no_upload-text : (test : Text → Bool) (pairs : List (Text × Text)) → ArePairs pairs → IsUtf8 (unwrap_or (lookup test pairs) [])
+or_no_upload-text test [] are = IsUtf8-nil
+or_no_upload-text test (p ∷ pairs) are = by (test p.0) (or_no_upload-text test pairs are.1)
   where
     by : (b : Bool) → IsUtf8 (unwrap_or (lookup test pairs) []) → IsUtf8 (unwrap_or (cond b (Some p.1) (lookup test pairs)) [])
     by true later = are.0
@@ -217,7 +217,7 @@ read-is_moment : (text : Text) → If IsMoment (read_moment text)
 unfolding read_moment
 read-is_moment text = instant-moment (parse_timestamp text)
 
-moment-printed : (text : Text) → IsUtf8 text → IsUtf8 (printed Shape.Moment text)
+moment-printed : (text : Text) → IsUtf8 text → IsUtf8 (text_in_row Shape.Moment text)
 moment-printed text is = by (is_absent text) (read_moment text) (read-is_moment text)
   where
     by : (b : Bool) (found : Option ℤ) → If IsMoment found → IsUtf8 (cond b text (unwrap_or (option_map moment_text found) text))
@@ -225,41 +225,41 @@ moment-printed text is = by (is_absent text) (read_moment text) (read-is_moment 
     by false None of = is
     by false (Some m) of = IsUtf8-from_ascii (moment_text m) (IsAscii-moment_text m of)
 
-printed-text : (shape : Shape) (text : Text) → IsUtf8 text → IsUtf8 (printed shape text)
-printed-text Shape.Code text is = is
-printed-text Shape.Codes text is = is
-printed-text Shape.Free text is = is
-printed-text Shape.Lang text is = is
-printed-text Shape.Country text is = is
-printed-text Shape.Authority text is = is
-printed-text Shape.Jurisdiction text is = is
-printed-text Shape.Form text is = is
-printed-text Shape.Moment text is = moment-printed text is
-printed-text Shape.RecordStatus text is = is
-printed-text Shape.EntityStatus text is = is
-printed-text Shape.Category text is = is
-printed-text Shape.Validation text is = is
-printed-text Shape.RelationType text is = is
-printed-text Shape.RelationStatus text is = is
-printed-text Shape.RelationRegistration text is = is
-printed-text Shape.ExceptionCategory text is = is
-printed-text Shape.Reason text is = is
-printed-text Shape.EventType text is = is
-printed-text Shape.EventStatus text is = is
+text_in_row-text : (shape : Shape) (text : Text) → IsUtf8 text → IsUtf8 (text_in_row shape text)
+text_in_row-text Shape.Code text is = is
+text_in_row-text Shape.Codes text is = is
+text_in_row-text Shape.Free text is = is
+text_in_row-text Shape.Lang text is = is
+text_in_row-text Shape.Country text is = is
+text_in_row-text Shape.Authority text is = is
+text_in_row-text Shape.Jurisdiction text is = is
+text_in_row-text Shape.Form text is = is
+text_in_row-text Shape.Moment text is = moment-printed text is
+text_in_row-text Shape.RecordStatus text is = is
+text_in_row-text Shape.EntityStatus text is = is
+text_in_row-text Shape.Category text is = is
+text_in_row-text Shape.Validation text is = is
+text_in_row-text Shape.RelationType text is = is
+text_in_row-text Shape.RelationStatus text is = is
+text_in_row-text Shape.RelationRegistration text is = is
+text_in_row-text Shape.ExceptionCategory text is = is
+text_in_row-text Shape.Reason text is = is
+text_in_row-text Shape.EventType text is = is
+text_in_row-text Shape.EventStatus text is = is
 
 content-text : (content : Content) (text : Text) → IsUtf8 text → IsUtf8 (row_text content text)
-content-text (Content.Shaped shape) text is = printed-text shape text is
+content-text (Content.Shaped shape) text is = text_in_row-text shape text is
 content-text Content.Successors text is = is
 content-text Content.Action text is = is
 
-fields-row : (fields : List Field) (pairs : List (Text × Text)) → ArePairs pairs → AreUtf8 (map (λ (field : Field). row_text field.1 (text_of pairs field.0)) fields)
+fields-row : (fields : List Field) (pairs : List (Text × Text)) → ArePairs pairs → AreUtf8 (map (λ (field : Field). row_text field.1 (text_under pairs field.0)) fields)
 fields-row [] pairs are = tt
 fields-row (field ∷ fields) pairs are =
-    (content-text field.1 (text_of pairs field.0) (found-text (bytes_eq field.0) pairs are), fields-row fields pairs are)
+    (content-text field.1 (text_under pairs field.0) (or_no_upload-text (bytes_eq field.0) pairs are), fields-row fields pairs are)
 
-sent-row : (kind : Kind) (pairs : List (Text × Text)) → ArePairs pairs → AreUtf8 (row_of kind pairs)
+raw_item-row : (kind : Kind) (pairs : List (Text × Text)) → ArePairs pairs → AreUtf8 (row_of kind pairs)
 unfolding row_of
-sent-row kind pairs are = fields-row (row_fields kind) pairs are
+raw_item-row kind pairs are = fields-row (row_fields kind) pairs are
 
 -- ---- items that are judged
 
@@ -267,19 +267,19 @@ abbrev IsTextual : Readied → Type 0
 IsTextual (Readied.Bad check) = Unit {0}
 IsTextual (Readied.Good item) = AreUtf8 (item_row item)
 
-readied-textual : (kind : Kind) (pairs : List (Text × Text)) (failed : Option FailedCheck) → ArePairs pairs → IsTextual (readied kind pairs failed)
-readied-textual kind pairs (Some check) are = tt
-readied-textual Kind.Record pairs None are = sent-row Kind.Record pairs are
-readied-textual Kind.Relation pairs None are = sent-row Kind.Relation pairs are
-readied-textual Kind.Exception pairs None are = sent-row Kind.Exception pairs are
+readied_as-textual : (kind : Kind) (pairs : List (Text × Text)) (failed : Option FailedCheck) → ArePairs pairs → IsTextual (readied_as kind pairs failed)
+readied_as-textual kind pairs (Some check) are = tt
+readied_as-textual Kind.Record pairs None are = raw_item-row Kind.Record pairs are
+readied_as-textual Kind.Relation pairs None are = raw_item-row Kind.Relation pairs are
+readied_as-textual Kind.Exception pairs None are = raw_item-row Kind.Exception pairs are
 
 ready-textual : (rules : Rules) (raws : List RawItem) → AreSent raws → AllByRecursion IsTextual (map (ready rules) raws)
 ready-textual rules [] are = tt
-ready-textual rules (RawItem.Record pairs ∷ raws) are = (readied-textual Kind.Record pairs (failed_check rules Kind.Record pairs) are.0, ready-textual rules raws are.1)
-ready-textual rules (RawItem.Relation pairs ∷ raws) are = (readied-textual Kind.Relation pairs (failed_check rules Kind.Relation pairs) are.0, ready-textual rules raws are.1)
-ready-textual rules (RawItem.Exception pairs ∷ raws) are = (readied-textual Kind.Exception pairs (failed_check rules Kind.Exception pairs) are.0, ready-textual rules raws are.1)
+ready-textual rules (RawItem.Record pairs ∷ raws) are = (readied_as-textual Kind.Record pairs (failed_check rules Kind.Record pairs) are.0, ready-textual rules raws are.1)
+ready-textual rules (RawItem.Relation pairs ∷ raws) are = (readied_as-textual Kind.Relation pairs (failed_check rules Kind.Relation pairs) are.0, ready-textual rules raws are.1)
+ready-textual rules (RawItem.Exception pairs ∷ raws) are = (readied_as-textual Kind.Exception pairs (failed_check rules Kind.Exception pairs) are.0, ready-textual rules raws are.1)
 
-read-textual : (rules : Rules) (found : Result (List RawItem) Malformed) → IfOkSent found → AllByRecursion IsTextual (items_in rules found)
+read-textual : (rules : Rules) (found : Result (List RawItem) Malformed) → IfOkSent found → AllByRecursion IsTextual (readied_items rules found)
 read-textual rules (Ok raws) are = ready-textual rules raws are
 read-textual rules (Err fault) are = tt
 
@@ -288,11 +288,11 @@ read-textual rules (Err fault) are = tt
 abbrev IsWritten : RowKey × Option Item → Type 0
 IsWritten write = If (λ item. AreUtf8 (item_row item)) write.1
 
-written-textual : (item : Item) → AreUtf8 (item_row item) → If (λ item. AreUtf8 (item_row item)) (written item)
-written-textual (Item.Record row) is = is
-written-textual (Item.Relation row) is = is
-written-textual (Item.Exception (row, true)) is = tt
-written-textual (Item.Exception (row, false)) is = is
+item_after-textual : (item : Item) → AreUtf8 (item_row item) → If (λ item. AreUtf8 (item_row item)) (item_after item)
+item_after-textual (Item.Record row) is = is
+item_after-textual (Item.Relation row) is = is
+item_after-textual (Item.Exception (row, true)) is = tt
+item_after-textual (Item.Exception (row, false)) is = is
 
 with_first : Table → Sitting → Item → List Readied → Option FailedCheck → Taken
 with_first table sitting item items failed =
@@ -306,14 +306,14 @@ take-written table sitting [] are = tt
 take-written table sitting (Readied.Bad check ∷ items) are = take-written table sitting items are.1
 take-written table sitting (Readied.Good item ∷ items) are =
     elim (first_failing (item_checks table sitting item)) as (λ failed. AllByRecursion IsWritten (with_first table sitting item items failed).writes) [
-      | None ↦ (written-textual item are.0, take-written (put_write table (row_key item, written item)) sitting items are.1)
+      | None ↦ (item_after-textual item are.0, take-written (put_write table (row_key item, item_after item)) sitting items are.1)
       | Some check ↦ take-written table sitting items are.1
     ]
 
 entry-written : (limits : Limits) (table : Table) (e : KeptEntry) → AllByRecursion IsWritten (entry_writes limits table e)
 entry-written limits table e =
-    elim (e.kind == 2) as (λ b. AllByRecursion IsWritten (cond b (take_items limits table e (items_of e)).writes [])) [
-      | true ↦ take-written table (entry_sitting limits e) (items_of e) (read-textual (rules_of e.rules) (upload e.body) (upload-sent e.body))
+    elim (e.kind == 2) as (λ b. AllByRecursion IsWritten (cond b (take_items limits table e (entry_items e)).writes [])) [
+      | true ↦ take-written table (entry_sitting limits e) (entry_items e) (read-textual (rules_of e.rules) (upload e.body) (upload-sent e.body))
       | false ↦ tt
     ]
 
@@ -326,14 +326,14 @@ HoldsTexts held = (q : KeyTexts) (cell : Cell) → get held q ≡ Some cell → 
 touch-texts : (number : ℕ) (held : Held) (key : RowKey) (item : Option Item) → If (λ item. AreUtf8 (item_row item)) item → HoldsTexts held
     → HoldsTexts (touch number held (key, item))
 touch-texts number held key item is holds q cell found =
-    by (eq_by_cmp key_cmp q (cell_key key)) (sym (get-insert keys_total held (cell_key key) (cell_of number item) q) ∙ found)
+    by (eq_by_cmp key_cmp q (cell_key key)) (sym (get-insert keys_total held (cell_key key) (cell_with number item) q) ∙ found)
   where
-    of-item : (item : Option Item) → If (λ item. AreUtf8 (item_row item)) item → If AreUtf8 (cell_of number item).row
+    of-item : (item : Option Item) → If (λ item. AreUtf8 (item_row item)) item → If AreUtf8 (cell_with number item).row
     of-item None is = tt
     of-item (Some item) is = is
 
-    by : (b : Bool) → cond b (Some (cell_of number item)) (get held q) ≡ Some cell → If AreUtf8 cell.row
-    by true here = (let own : cell_of number item ≡ cell = cc in subst (λ c. If AreUtf8 c.row) own (of-item item is))
+    by : (b : Bool) → cond b (Some (cell_with number item)) (get held q) ≡ Some cell → If AreUtf8 cell.row
+    by true here = (let own : cell_with number item ≡ cell = cc in subst (λ c. If AreUtf8 c.row) own (of-item item is))
     by false there = holds q cell there
 
 touch-all-texts : (number : ℕ) (writes : WriteList) (held : Held) → AllByRecursion IsWritten writes → HoldsTexts held → HoldsTexts (touch_all number writes held)

@@ -6,7 +6,7 @@ use Rattle.register_words.specs.declared.reply.Reply.TheVariants.{Words}
 use Rattle.register_words.specs.declared.request.Asked.{Asked}
 use Rattle.register_words.specs.declared.request.Asked.TheVariants.{Ask, Refuse}
 use Rattle.register_history.specs.Replies.{next, reply}
-use Rattle.register_history.specs.Legal.{Session, replies_to}
+use Rattle.register_history.specs.Legal.{OfficeSession, replies_to}
 use Rattle.register_history.specs.State.{OfficeState}
 
 -- a list that lacks an item has a different first one, and its rest lacks the item
@@ -16,7 +16,7 @@ first-is_other x y ys lacks is = lacks (0, omega arith, is)
 rest-lacks : {X : Type 0} (x y : X) (ys : List X) → ¬ (Contains (y ∷ ys) x) → ¬ (Contains ys x)
 rest-lacks x y ys lacks has = lacks (suc has.0, omega (arith, has.1), has.2)
 
-pub exact : (asks : List Asked) (old new : OfficeState) (moments : List ℤ) (replies : List Reply) → Session old asks moments replies new → ¬ (Contains replies (Words NoMemory)) → ¬ (Contains replies (Words KeeperFault)) → replies ≡ replies_to old asks moments
+pub exact : (asks : List Asked) (old new : OfficeState) (moments : List ℤ) (replies : List Reply) → OfficeSession old asks moments replies new → ¬ (Contains replies (Words NoMemory)) → ¬ (Contains replies (Words KeeperFault)) → replies ≡ replies_to old asks moments
 exact [] old new moments [] session lacks kept = refl
 exact [] old new moments (answered ∷ replies) session lacks kept = absurd session
 exact (asked ∷ asks) old new moments [] session lacks kept = absurd session

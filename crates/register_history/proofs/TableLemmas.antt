@@ -8,7 +8,7 @@ use Rattle.std.specs.Str.{IsAscii}
 use Rattle.std.proofs.lemmas.Bool.{leb-false, ltb-false}
 use Rattle.std.proofs.lemmas.List.Sums.{fold-append, sum_by_push}
 use Rattle.lei_code.specs.Code.{IsValid}
-use Rattle.lei_outside.specs.Keeping.{KeptTables, last_number, nothing_kept, number_of}
+use Rattle.lei_outside.specs.Keeping.{KeptTables, entry_number, last_number, nothing_kept}
 use Rattle.lei_outside.specs.declared.entry.KeptEntry.{KeptEntry}
 use Rattle.lei_records.specs.Tables.{Table, put_all}
 use Rattle.register_judge.proofs.TakingLemmas.{take-written}
@@ -27,7 +27,7 @@ use Rattle.register_words.specs.Limits.{AreLimits}
 use Rattle.register_history.specs.Replies.{accreditation, is_full, is_too_much, upload_entry}
 use Rattle.register_history.proofs.KeptLemmas.{nothing-of}
 use Rattle.register_history.proofs.PlaceLemmas.{lei_ascii}
-use Rattle.register_history.specs.Register.{CellsHaveTheRows, IsKeptAfter, after, after_entry, entry_sitting, entry_writes, held_after, held_after_entry, items_of, take_items}
+use Rattle.register_history.specs.Register.{CellsHaveTheRows, IsKeptAfter, after, after_entry, entry_items, entry_sitting, entry_writes, held_after, held_after_entry, take_items}
 use Rattle.register_history.specs.State.{OfficeState, office_of}
 use Rattle.register_history.proofs.Histories.{after-push, last_entry-push}
 use Rattle.register_history.proofs.Registers.{IsFit, after-fit, entry-fit, may_put, none-fit, read-rows}
@@ -38,22 +38,22 @@ use Rattle.lei_records.specs.RuleNumbers.{rules_of}
 
 entry-put : (limits : Limits) (table : Table) (e : KeptEntry) → put_all (entry_writes limits table e) table ≡ after_entry limits table e
 entry-put limits table e =
-    elim (e.kind == 2) as (λ b. put_all (cond b (take_items limits table e (items_of e)).writes []) table ≡ cond b (take_items limits table e (items_of e)).table table) [
-      | true ↦ sym (take-written table (entry_sitting limits e) (items_of e))
+    elim (e.kind == 2) as (λ b. put_all (cond b (take_items limits table e (entry_items e)).writes []) table ≡ cond b (take_items limits table e (entry_items e)).table table) [
+      | true ↦ sym (take-written table (entry_sitting limits e) (entry_items e))
       | false ↦ refl
     ]
 
 entry-own : (limits : Limits) (table : Table) (e : KeptEntry) → IsFit limits.records table → AreOwn (entry_writes limits table e)
 entry-own limits table e fit =
-    elim (e.kind == 2) as (λ b. AreOwn (cond b (take_items limits table e (items_of e)).writes [])) [
-      | true ↦ (may_put table (entry_sitting limits e) (items_of e) fit.sound fit.fits (read-rows (rules_of e.rules) (upload e.body))).own
+    elim (e.kind == 2) as (λ b. AreOwn (cond b (take_items limits table e (entry_items e)).writes [])) [
+      | true ↦ (may_put table (entry_sitting limits e) (entry_items e) fit.sound fit.fits (read-rows (rules_of e.rules) (upload e.body))).own
       | false ↦ tt
     ]
 
 entry-kept : (limits : Limits) (table : Table) (e : KeptEntry) → limits.records ≤ 4294967295 → IsFit limits.records table → StaysKept (entry_writes limits table e) table
 entry-kept limits table e bound fit =
-    elim (e.kind == 2) as (λ b. StaysKept (cond b (take_items limits table e (items_of e)).writes []) table) [
-      | true ↦ (may_put table (entry_sitting limits e) (items_of e) fit.sound fit.fits (read-rows (rules_of e.rules) (upload e.body))).kept bound
+    elim (e.kind == 2) as (λ b. StaysKept (cond b (take_items limits table e (entry_items e)).writes []) table) [
+      | true ↦ (may_put table (entry_sitting limits e) (entry_items e) fit.sound fit.fits (read-rows (rules_of e.rules) (upload e.body))).kept bound
       | false ↦ tt
     ]
 
@@ -103,7 +103,7 @@ kept-push limits history old new e writes kept number same held put later =
           ∙ (ap (λ t. touch_all e.seq (entry_writes limits t e) (held_after limits history)) (sym of_rows) ∙ sym (held-push limits history e))));
       rows = put ∙ (ap (λ w. put_all w (rows old.held)) same ∙ (ap (put_all (entry_writes limits table e)) kept.rows ∙ (entry-put limits table e ∙ sym (after-push limits history e))));
       numbers = later_more (e.seq + 1) (length (history ++ e ∷ []) + 1) new.held (omega (arith, count, number)) later;
-      last = ap number_of (last_entry-push history e) ∙ omega (arith, count, number);
+      last = ap entry_number (last_entry-push history e) ∙ omega (arith, count, number);
     }
 
 -- the table is the same
@@ -115,7 +115,7 @@ kept-same limits history later old new kept same held =
       held = held ∙ (kept.held ∙ ap (held_after limits) (sym same));
       rows = ap rows held ∙ (kept.rows ∙ ap (after limits) (sym same));
       numbers = subst H (sym held) (subst L (sym same) kept.numbers);
-      last = ap (λ l. number_of (last_entry l)) same ∙ (kept.last ∙ ap length (sym same));
+      last = ap (λ l. entry_number (last_entry l)) same ∙ (kept.last ∙ ap length (sym same));
     }
 
 -- the entry was added, or nothing was
@@ -134,7 +134,7 @@ pub next-told : (limits : Limits) (history : History) (table : TableState) (numb
     → Keeps told (office_of limits history) → IfSome told (λ t. number ≡ last_number t + 1)
 next-told limits history table number None kept is keeps = tt
 next-told limits history table number (Some told) kept is keeps =
-    let last : last_number told ≡ length history = ap (λ l. number_of (last_entry l)) keeps.entries ∙ kept.last in
+    let last : last_number told ≡ length history = ap (λ l. entry_number (last_entry l)) keeps.entries ∙ kept.last in
     omega (arith, is, last)
 
 pub told-held : (limits : Limits) (history : History) (table : TableState) (told : Option KeptTables) → IsKeptAfter limits history table → Keeps told (office_of limits history)

@@ -13,8 +13,8 @@ use Rattle.upload_ledger.specs.History.{History}
 use Rattle.register_words.specs.declared.limits.Limits.{Limits}
 use Rattle.register_words.specs.declared.request.Request.{Request}
 use Rattle.register_words.specs.declared.request.Request.TheVariants.{Accredit, Publish, Upload}
-use Rattle.register_history.specs.Damage.{EntryTextsDiffer, asked_by, entry_line, is_lei, is_number, outcome_text, request_in, request_text, replayed}
-use Rattle.register_history.specs.Legal.{IsNext, Legal, may_follow}
+use Rattle.register_history.specs.Damage.{EntryTextsDiffer, stored_request, entry_line, is_lei, is_number, expected_text, request_in, request_text, replayed_text}
+use Rattle.register_history.specs.Legal.{IsNext, Legal, rules_may_follow}
 use Rattle.register_words.specs.Requests.{IsRequest, IsUploadNumber}
 use Rattle.register_history.specs.Replies.{adds, outcome_by, stays, terms_by}
 use Rattle.register_history.specs.State.{office_of}
@@ -80,9 +80,9 @@ of_publication e request true in_range kind tests is =
     (record { own = (kind, nothing_in e.office front.0, refl, nothing_in e.body all.1); valid = number-valid e.number front.1; in_range = in_range })
 of_publication e request false in_range kind tests is = cc
 
-of_stored : (before : History) (e : KeptEntry) (request : Request) → asked_by before e ≡ Some request → IsAskedBy request e
-unfolding asked_by
-of_stored before e request is = by_moment (is_moment e.moment) (may_follow before e.rules) refl is
+of_stored : (before : History) (e : KeptEntry) (request : Request) → stored_request before e ≡ Some request → IsAskedBy request e
+unfolding stored_request
+of_stored before e request is = by_moment (is_moment e.moment) (rules_may_follow before e.rules) refl is
   where
     by_kind : IsMoment e.moment → (one two three : Bool) → e.kind == 1 ≡ one → e.kind == 2 ≡ two → e.kind == 3 ≡ three
         → cond one (cond (is_lei e.office && e.number == 0 && length e.body == 0) (Some (Accredit e.office)) None)
@@ -117,7 +117,7 @@ line-apart e text apart same =
 
 -- what is made for the request of a stored entry and has its line is that entry
 made-is : (limits : Limits) (before : History) (e made : KeptEntry) (request : Request) → Legal (office_of limits before) → e.seq ≡ length before + 1 → IsAskedBy request e
-    → may_follow before e.rules ≡ true → IsMade (office_of limits before) request (terms_by e.rules before e.moment) made → entry_line e ≡ entry_line made → made ≡ e
+    → rules_may_follow before e.rules ≡ true → IsMade (office_of limits before) request (terms_by e.rules before e.moment) made → entry_line e ≡ entry_line made → made ≡ e
 made-is limits before e made request legal number asked follows is same =
     let parts = own-same request e made asked.own is.own in
     let stamped : IsMoment made.moment = subst IsMoment (sym is.at_moment) (stamp-is_moment limits before e.moment legal asked.in_range) in
@@ -126,13 +126,13 @@ made-is limits before e made request legal number asked follows is same =
     line-tells e made (number ∙ sym is.seq) parts.0 parts.1 parts.2 parts.3 asked.in_range stamped small same
 
 request-differs : (limits : Limits) (before : History) (e : KeptEntry) (request : Request) → Legal (office_of limits before) → e.seq ≡ length before + 1 → (IsNext (office_of limits before) e → ⊥)
-    → asked_by before e ≡ Some request → entry_line e ≡ outcome_text (outcome_by e.rules (office_of limits before) request e.moment) → ⊥
+    → stored_request before e ≡ Some request → entry_line e ≡ expected_text (outcome_by e.rules (office_of limits before) request e.moment) → ⊥
 request-differs limits before e request legal number never asked same =
     let office = office_of limits before in
     let terms = terms_by e.rules before e.moment in
     let stored = of_stored before e request asked in
     let comes = request-comes office request terms (legal-apart limits before legal) (request-taken e request (asked-request before e request asked)) in
-    elim (outcome_by e.rules office request e.moment) as (λ o. outcome_by e.rules office request e.moment ≡ o → entry_line e ≡ outcome_text o → ⊥) [
+    elim (outcome_by e.rules office request e.moment) as (λ o. outcome_by e.rules office request e.moment ≡ o → entry_line e ≡ expected_text o → ⊥) [
       | stays reply ↦ λ is line. line-apart e (reply_words reply) (subst (Comes office request terms) is comes) line
       | adds made ↦ λ is line.
           let this = made-is limits before e made request legal number stored (asked-follows before e request asked) (subst (Comes office request terms) is comes) line in
@@ -140,9 +140,9 @@ request-differs limits before e request legal number never asked same =
     ] refl same
 
 entry-differs : (limits : Limits) (before : History) (e : KeptEntry) → Legal (office_of limits before) → e.seq ≡ length before + 1 → (IsNext (office_of limits before) e → ⊥)
-    → entry_line e ≡ replayed (office_of limits before) e → ⊥
+    → entry_line e ≡ replayed_text (office_of limits before) e → ⊥
 entry-differs limits before e legal number never same =
-    elim (asked_by before e) as (λ o. asked_by before e ≡ o → entry_line e ≡ request_text (office_of limits before) e o → ⊥) [
+    elim (stored_request before e) as (λ o. stored_request before e ≡ o → entry_line e ≡ request_text (office_of limits before) e o → ⊥) [
       | None ↦ λ none line. line-apart e (codes "NOT_AN_ENTRY") (omega arith) line
       | Some request ↦ λ asked line. request-differs limits before e request legal number never asked line
     ] refl same

@@ -6,17 +6,17 @@ use Rattle.golden_shelf.specs.Shelves.{latest}
 use Rattle.golden_shelf.proofs.Publishing.{latest_push}
 use Rattle.upload_ledger.specs.History.{History, is_publication, last_entry, publications}
 use Rattle.register_words.specs.declared.limits.Limits.{Limits}
-use Rattle.register_history.specs.Publications.{publication_by, published_by, trail, trail_behind}
+use Rattle.register_history.specs.Publications.{publication_by, published_by, trail, trail_after}
 use Rattle.register_history.specs.State.{OfficeState, office_of}
 
 -- ---- one more entry
 
 behind-push : (limits : Limits) (before rest : History) (e : KeptEntry)
-    → trail_behind limits before (rest ++ e ∷ []) ≡ trail_behind limits before rest ++ published_by limits (before ++ rest) e
+    → trail_after limits before (rest ++ e ∷ []) ≡ trail_after limits before rest ++ published_by limits (before ++ rest) e
 behind-push limits before [] e = append-nil (published_by limits before e) ∙ ap (λ h. published_by limits h e) (sym (append-nil before))
 behind-push limits before (first ∷ rest) e =
     let own = published_by limits before first in
-    let later = trail_behind limits (before ++ first ∷ []) rest in
+    let later = trail_after limits (before ++ first ∷ []) rest in
     ap (λ t. own ++ t)
     (behind-push limits (before ++ first ∷ []) rest e ∙ ap (λ h. later ++ published_by limits h e) (append_assoc before (first ∷ []) rest))
     ∙ sym (append_assoc own later (published_by limits (before ++ first ∷ rest) e))
@@ -44,14 +44,14 @@ trail-same limits history e is =
 
 -- ---- as many as the entries that made them
 
-behind-length : (limits : Limits) (before rest : History) → length (trail_behind limits before rest) ≡ length (publications rest)
+behind-length : (limits : Limits) (before rest : History) → length (trail_after limits before rest) ≡ length (publications rest)
 behind-length limits before [] = refl
 behind-length limits before (e ∷ rest) =
-    length-append (published_by limits before e) (trail_behind limits (before ++ e ∷ []) rest)
+    length-append (published_by limits before e) (trail_after limits (before ++ e ∷ []) rest)
     ∙ by (is_publication e) (behind-length limits (before ++ e ∷ []) rest)
   where
-    by : (b : Bool) → length (trail_behind limits (before ++ e ∷ []) rest) ≡ length (publications rest)
-        → length (cond b (publication_by limits before e ∷ []) []) + length (trail_behind limits (before ++ e ∷ []) rest)
+    by : (b : Bool) → length (trail_after limits (before ++ e ∷ []) rest) ≡ length (publications rest)
+        → length (cond b (publication_by limits before e ∷ []) []) + length (trail_after limits (before ++ e ∷ []) rest)
         ≡ length (cond b (e ∷ publications rest) (publications rest))
     by true later = omega (arith, later)
     by false later = omega (arith, later)
@@ -73,12 +73,12 @@ last_of [] = None
 last_of (m ∷ []) = Some m
 last_of (m ∷ n ∷ moments) = last_of (n ∷ moments)
 
-behind-moments : (limits : Limits) (before rest : History) → map of_publication (trail_behind limits before rest) ≡ map of_entry (publications rest)
+behind-moments : (limits : Limits) (before rest : History) → map of_publication (trail_after limits before rest) ≡ map of_entry (publications rest)
 behind-moments limits before [] = refl
 behind-moments limits before (e ∷ rest) = by (is_publication e) (behind-moments limits (before ++ e ∷ []) rest)
   where
-    by : (b : Bool) → map of_publication (trail_behind limits (before ++ e ∷ []) rest) ≡ map of_entry (publications rest)
-        → map of_publication (cond b (publication_by limits before e ∷ []) [] ++ trail_behind limits (before ++ e ∷ []) rest)
+    by : (b : Bool) → map of_publication (trail_after limits (before ++ e ∷ []) rest) ≡ map of_entry (publications rest)
+        → map of_publication (cond b (publication_by limits before e ∷ []) [] ++ trail_after limits (before ++ e ∷ []) rest)
         ≡ map of_entry (cond b (e ∷ publications rest) (publications rest))
     by true later = ap (λ l. e.moment ∷ l) later
     by false later = later
@@ -100,7 +100,7 @@ pub latest-moment : (office : OfficeState)
     → option_map (λ (p : Publication). p.moment) (latest (trail office)) ≡ option_map (λ (e : KeptEntry). e.moment) (last_entry (publications office.history))
 unfolding trail
 latest-moment office =
-    let made = trail_behind office.limits [] office.history in
+    let made = trail_after office.limits [] office.history in
     last-published made ∙ (ap last_of (behind-moments office.limits [] office.history) ∙ sym (last-entry (publications office.history)))
 
 -- the latest publication with its number, as reported

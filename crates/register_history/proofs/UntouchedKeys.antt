@@ -5,20 +5,20 @@ use Rattle.std.specs.Ordering.{eq_by_cmp}
 use Rattle.std.proofs.lemmas.Bool.{eqb-true, false≢true, lt-ltb}
 use Rattle.std.proofs.lemmas.List.Elements.{filter-append}
 use Rattle.authority_rules.proofs.HolderLemmas.{keys_total}
-use Rattle.lei_outside.specs.Keeping.{number_of}
+use Rattle.lei_outside.specs.Keeping.{entry_number}
 use Rattle.lei_outside.specs.declared.entry.KeptEntry.{KeptEntry}
 use Rattle.lei_records.specs.Tables.{KeyTexts, key_cmp}
 use Rattle.register_words.specs.declared.sheets.Sheet.{Sheet}
 use Rattle.copy_forms.specs.Trails.{nothing_published, row_under}
 use Rattle.golden_shelf.specs.Shelves.{latest_rows}
 use Rattle.register_table.specs.Held.{Cell, Held, cell_key, row_in, rows}
-use Rattle.register_table.specs.Undos.{WriteList, cell_of, touch, touch_all}
+use Rattle.register_table.specs.Undos.{WriteList, cell_with, touch, touch_all}
 use Rattle.register_table.proofs.RowsLemmas.{exception_at, record_at, relation_at}
 use Rattle.upload_ledger.specs.History.{History, is_publication, is_upload, last_entry, publications}
 use Rattle.register_words.specs.declared.limits.Limits.{Limits}
 use Rattle.register_history.specs.Legal.{Legal, LegalAfter}
-use Rattle.register_history.specs.Publications.{cell_kind, last_published, rows_in, trail}
-use Rattle.register_history.specs.Register.{after, entry_writes, held_after, held_after_entry, items_of, take_items}
+use Rattle.register_history.specs.Publications.{cell_kind, last_published, sheet_rows, trail}
+use Rattle.register_history.specs.Register.{after, entry_items, entry_writes, held_after, held_after_entry, take_items}
 use Rattle.register_history.specs.State.{office_of}
 use Rattle.register_history.proofs.AskedFor.{next-seq}
 use Rattle.register_history.proofs.Histories.{after-push, last_entry-push}
@@ -33,16 +33,16 @@ use Rattle.register_history.proofs.TrailGrowth.{trail-made, trail-same}
 abbrev pub cell_at : Sheet → KeyTexts → KeyTexts
 cell_at sheet k = cell_kind sheet ∷ k
 
-rows-cell : (held : Held) (sheet : Sheet) (k : KeyTexts) → get (rows_in (rows held) sheet) k ≡ row_in (get held (cell_at sheet k))
+rows-cell : (held : Held) (sheet : Sheet) (k : KeyTexts) → get (sheet_rows (rows held) sheet) k ≡ row_in (get held (cell_at sheet k))
 rows-cell held Sheet.Lei k = record_at held k
 rows-cell held Sheet.Rr k = relation_at held k
 rows-cell held Sheet.Repex k = exception_at held k
 
 -- what the register has under a key is what its cell has
 pub table-cell : (limits : Limits) (history : History) (sheet : Sheet) (k : KeyTexts)
-    → get (rows_in (after limits history) sheet) k ≡ row_in (get (held_after limits history) (cell_at sheet k))
+    → get (sheet_rows (after limits history) sheet) k ≡ row_in (get (held_after limits history) (cell_at sheet k))
 table-cell limits history sheet k =
-    ap (λ t. get (rows_in t sheet) k) (sym (have_the_rows (office_of limits history))) ∙ rows-cell (held_after limits history) sheet k
+    ap (λ t. get (sheet_rows t sheet) k) (sym (have_the_rows (office_of limits history))) ∙ rows-cell (held_after limits history) sheet k
 
 -- so what is published under a key is that of its cell
 pub published-cell : (limits : Limits) (history : History) (sheet : Sheet) (k : KeyTexts)
@@ -61,7 +61,7 @@ touched-or number (write ∷ writes) held q = by (touched-or number writes (touc
     all = get (touch_all number writes (touch number held write)) q
 
     new : Cell
-    new = cell_of number write.1
+    new = cell_with number write.1
 
     here : all ≡ get (touch number held write) q → (all ≡ get held q) ⊎ ((cell : Cell) × (all ≡ Some cell) × (cell.entry ≡ number))
     here same = at (eq_by_cmp key_cmp q (cell_key write.0)) (same ∙ get-insert keys_total held (cell_key write.0) new q)
@@ -98,9 +98,9 @@ no_upload e is = let kind : e.kind ≡ 3 = eqb-true e.kind 3 is in ap (λ k. k =
 made-push : (limits : Limits) (history : History) (e : KeptEntry) → e.seq ≡ length history + 1 → is_publication e ≡ true → KeepsRows limits (history ++ e ∷ [])
 made-push limits history e number is =
     let made : publications (history ++ e ∷ []) ≡ publications history ++ e ∷ [] = publications-push history e ∙ ap (λ b. publications history ++ cond b (e ∷ []) []) is in
-    let last : last_published (history ++ e ∷ []) ≡ e.seq = ap (λ p. number_of (last_entry p)) made ∙ ap number_of (last_entry-push (publications history) e) in
+    let last : last_published (history ++ e ∷ []) ≡ e.seq = ap (λ p. entry_number (last_entry p)) made ∙ ap entry_number (last_entry-push (publications history) e) in
     let count = length-append history (e ∷ []) in
-    let same : after limits (history ++ e ∷ []) ≡ after limits history = after-push limits history e ∙ ap (λ b. cond b (take_items limits (after limits history) e (items_of e)).table (after limits history)) (no_upload e is) in
+    let same : after limits (history ++ e ∷ []) ≡ after limits history = after-push limits history e ∙ ap (λ b. cond b (take_items limits (after limits history) e (entry_items e)).table (after limits history)) (no_upload e is) in
     record {
       few = omega (arith, last, number, count);
       kept = λ sheet k old.
@@ -126,7 +126,7 @@ other-push limits history e number is keeps =
     made = publications-push history e ∙ (ap (λ b. publications history ++ cond b (e ∷ []) []) is ∙ append-nil (publications history))
 
     last : last_published (history ++ e ∷ []) ≡ last_published history
-    last = ap (λ p. number_of (last_entry p)) made
+    last = ap (λ p. entry_number (last_entry p)) made
 
     by : (sheet : Sheet) (k : KeyTexts) → is_new (last_published history) (get (held_after limits (history ++ e ∷ [])) (cell_at sheet k)) ≡ false
         → (get (held_after_entry limits held e) (cell_at sheet k) ≡ get held (cell_at sheet k))

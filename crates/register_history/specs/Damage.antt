@@ -11,7 +11,7 @@ use Rattle.lei_outside.specs.declared.entry.KeptEntry.{KeptEntry}
 use Rattle.lei_outside.specs.declared.keeper.KeptCell.{KeptCell}
 use Rattle.lei_records.specs.Tables.{KeyTexts}
 use Rattle.register_words.specs.declared.sheets.Sheet.{Sheet}
-use Rattle.copy_csv.specs.Sheets.{row_of}
+use Rattle.copy_csv.specs.Sheets.{row_of_texts}
 use Rattle.copy_forms.specs.Json.{json_record}
 use Rattle.register_table.specs.Held.{Cell, Held}
 use Rattle.register_table.specs.Touched.{touched}
@@ -20,8 +20,8 @@ use Rattle.register_words.specs.declared.limits.Limits.{Limits}
 use Rattle.register_history.specs.declared.damage.Damage.{Damage}
 use Rattle.register_words.specs.declared.request.Request.{Request}
 use Rattle.register_words.specs.declared.request.Request.TheVariants.{Accredit, Publish, Upload}
-use Rattle.register_history.specs.Kept.{AreTablesOf, joined}
-use Rattle.register_history.specs.Legal.{IsNext, Legal, may_follow}
+use Rattle.register_history.specs.Kept.{AreTablesOf, with_spaces}
+use Rattle.register_history.specs.Legal.{IsNext, Legal, rules_may_follow}
 use Rattle.register_words.specs.Words.{number_limit}
 use Rattle.register_history.specs.Register.{held_after}
 use Rattle.register_history.specs.Replies.{Outcome, adds, outcome_by, stays}
@@ -46,7 +46,7 @@ moment_word seconds = if is_moment seconds then moment_text seconds else signed_
 -- An entry in one line: its number, its kind, its office, its own number, its moment, its rules and its answer,
 -- separated by single spaces.
 unfoldable pub entry_line : KeptEntry → Text
-entry_line e = joined (decimal e.seq ∷ kind_word e.kind ∷ or_dash e.office ∷ decimal e.number
+entry_line e = with_spaces (decimal e.seq ∷ kind_word e.kind ∷ or_dash e.office ∷ decimal e.number
     ∷ moment_word e.moment
     ∷ decimal e.rules ∷ e.answer ∷ [])
 
@@ -61,49 +61,49 @@ abbrev pub is_number : ℕ → Bool
 is_number number = nat_le 1 number && nat_le number number_limit
 
 -- an accreditation names an LEI, and has neither a number nor a body
-abbrev pub accreditation_in : KeptEntry → Option Request
-accreditation_in e =
+abbrev pub stored_accreditation : KeptEntry → Option Request
+stored_accreditation e =
     if is_lei e.office && e.number == 0 && length e.body == 0 then Some (Accredit e.office) else None
 
 -- an upload names an LEI, and has a number that an upload may have
-abbrev pub upload_in : KeptEntry → Option Request
-upload_in e = if is_lei e.office && is_number e.number
+abbrev pub stored_upload : KeptEntry → Option Request
+stored_upload e = if is_lei e.office && is_number e.number
     then Some (Upload (record { office = e.office; number = e.number; body = e.body })) else None
 
 -- a publication has a number that it may have, and neither an office nor a body
-abbrev pub publication_in : KeptEntry → Option Request
-publication_in e =
+abbrev pub stored_publication : KeptEntry → Option Request
+stored_publication e =
     if length e.office == 0 && is_number e.number && length e.body == 0 then Some (Publish e.number) else None
 
 -- the request that an entry of this kind was made for
 abbrev pub request_in : KeptEntry → Option Request
-request_in e = if is_accreditation e then accreditation_in e
-    else (if is_upload e then upload_in e else (if is_publication e then publication_in e else None))
+request_in e = if is_accreditation e then stored_accreditation e
+    else (if is_upload e then stored_upload e else (if is_publication e then stored_publication e else None))
 
 -- The request that a stored entry was made for. None if its values aren't those of a request, its moment isn't a
 -- moment, or its rules may not follow those of the entry before it.
-unfoldable pub asked_by : History → KeptEntry → Option Request
-asked_by before e = if is_moment e.moment && may_follow before e.rules then request_in e else None
+unfoldable pub stored_request : History → KeptEntry → Option Request
+stored_request before e = if is_moment e.moment && rules_may_follow before e.rules then request_in e else None
 
 -- the entry that results from a request, in a line, or the text of the reply if there is no entry
-abbrev pub outcome_text : Outcome → Text
-outcome_text (adds made) = entry_line made
-outcome_text (stays reply) = reply_words reply
+abbrev pub expected_text : Outcome → Text
+expected_text (adds made) = entry_line made
+expected_text (stays reply) = reply_words reply
 
 -- the same for the request that a stored entry was made for, by the entry's rules at its moment
 abbrev pub request_text : OfficeState → KeptEntry → Option Request → Text
 request_text office e None = codes "NOT_AN_ENTRY"
-request_text office e (Some request) = outcome_text (outcome_by e.rules office request e.moment)
+request_text office e (Some request) = expected_text (outcome_by e.rules office request e.moment)
 
 -- what the replay makes of a stored entry
-abbrev pub replayed : OfficeState → KeptEntry → Text
-replayed office e = request_text office e (asked_by office.history e)
+abbrev pub replayed_text : OfficeState → KeptEntry → Text
+replayed_text office e = request_text office e (stored_request office.history e)
 
 -- ---- the first entry that differs
 
 -- a stored entry that isn't what the replay makes
 abbrev pub not_next : OfficeState → KeptEntry → Damage
-not_next office e = record { entry = e.seq; kept = entry_line e; replayed = replayed office e }
+not_next office e = record { entry = e.seq; kept = entry_line e; replayed = replayed_text office e }
 
 -- no entry with this number is stored
 abbrev pub missing : ℕ → Damage
@@ -128,22 +128,22 @@ pub record IsEntryDamage (limits : Limits) (entries : History) (damage : Damage)
 -- ---- how a cell is reported
 
 -- the number of a cell's kind, which is a text of one byte
-abbrev pub kind_in : Text → ℕ
-kind_in [] = 0
-kind_in (kind ∷ text) = kind
+abbrev pub kind_number_in : Text → ℕ
+kind_number_in [] = 0
+kind_number_in (kind ∷ text) = kind
 
 -- the sheet with the rows of this kind
 abbrev pub sheet_at : ℕ → Sheet
 sheet_at kind = if kind == 1 then Sheet.Lei else (if kind == 2 then Sheet.Rr else Sheet.Repex)
 
 -- a cell of the register, as it is kept
-abbrev pub kept_of : KeyTexts × Cell → KeptCell
-kept_of ([], cell) = record { kind = 0; name = []; touched = cell.entry; row = None }
-kept_of (kind ∷ texts, cell) = record {
-  kind = kind_in kind;
-  name = joined texts;
+abbrev pub cell_to_keep : KeyTexts × Cell → KeptCell
+cell_to_keep ([], cell) = record { kind = 0; name = []; touched = cell.entry; row = None }
+cell_to_keep (kind ∷ texts, cell) = record {
+  kind = kind_number_in kind;
+  name = with_spaces texts;
   touched = cell.entry;
-  row = option_map (λ row. json_record (row_of (sheet_at (kind_in kind)) row)) cell.row;
+  row = option_map (λ row. json_record (row_of_texts (sheet_at (kind_number_in kind)) row)) cell.row;
 }
 
 -- the text of a row, and `-` for none
@@ -154,7 +154,7 @@ row_word (Some row) = row
 -- A cell in one line: the number of its kind, its name, the number of the entry that touched it last and its row,
 -- separated by single spaces.
 unfoldable pub cell_line : KeptCell → Text
-cell_line cell = joined (decimal cell.kind ∷ cell.name ∷ decimal cell.touched ∷ row_word cell.row ∷ [])
+cell_line cell = with_spaces (decimal cell.kind ∷ cell.name ∷ decimal cell.touched ∷ row_word cell.row ∷ [])
 
 -- ---- the first cell that differs
 
@@ -171,7 +171,7 @@ kept_page tables bounds = cells_between bounds.0 bounds.1 tables
 
 -- those of the register, in the same order
 abbrev pub made_page : Held → ℕ × ℕ → List KeptCell
-made_page held bounds = map kept_of (touched bounds.0 bounds.1 held)
+made_page held bounds = map cell_to_keep (touched bounds.0 bounds.1 held)
 
 -- a cell in its line, or `none` if there is none
 abbrev pub cell_or_none : Option KeptCell → Text

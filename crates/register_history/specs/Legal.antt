@@ -30,8 +30,8 @@ last_rules None = 1
 last_rules (Some e) = e.rules
 
 -- An entry after a history may have these rules: they exist, and they aren't lower than those of the last entry.
-abbrev pub may_follow : History → ℕ → Bool
-may_follow history rules =
+abbrev pub rules_may_follow : History → ℕ → Bool
+rules_may_follow history rules =
     nat_le 1 rules && nat_le rules newest_rules && nat_le (last_rules (last_entry history)) rules
 
 -- The entry is what its own request adds to the office before it, by its own rules and at its own moment. Its rules may
@@ -39,7 +39,7 @@ may_follow history rules =
 abbrev pub IsNext : OfficeState → KeptEntry → Type 0
 IsNext before e =
     (request : Request) × (request_of e ≡ Some request) × IsRequest request × IsMoment e.moment
-    × IsTrue (may_follow before.history e.rules) × (outcome_by e.rules before request e.moment ≡ adds e)
+    × IsTrue (rules_may_follow before.history e.rules) × (outcome_by e.rules before request e.moment ≡ adds e)
 
 -- each entry of the rest is next after those before it
 abbrev pub LegalAfter : Limits → History → History → Type 0
@@ -75,8 +75,8 @@ AskStep old (Ask request) moments answered new =
     ⊎ (TakesMemoryToRead request × (moments ≡ []) × (answered ≡ Words NoMemory) × (new ≡ old))
 
 -- these replies answer what was asked, in order, at these moments, and lead from one office to the other
-abbrev pub Session : OfficeState → List Asked → List ℤ → List Reply → OfficeState → Type 0
-Session = sessions.Session AskStep
+abbrev pub OfficeSession : OfficeState → List Asked → List ℤ → List Reply → OfficeState → Type 0
+OfficeSession = sessions.Session AskStep
 
 -- The replies if memory never runs out and the keeper never fails. If the moments run out, nothing more is answered.
 abbrev pub replies_to : OfficeState → List Asked → List ℤ → List Reply

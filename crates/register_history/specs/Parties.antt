@@ -17,7 +17,7 @@ use Rattle.register_judge.specs.declared.outcome.Verdict.{Verdict}
 use Rattle.register_table.specs.Held.{no_rows}
 use Rattle.register_words.specs.declared.limits.Limits.{Limits}
 use Rattle.upload_ledger.specs.History.{History, is_upload}
-use Rattle.register_history.specs.Register.{after, after_entry, entry_sitting, items_of}
+use Rattle.register_history.specs.Register.{after, after_entry, entry_items, entry_sitting}
 use Rattle.register_history.specs.State.{OfficeState}
 
 -- A change of a record: the row that was held under its LEI, if any, the row that replaced it, and the issuer that sent
@@ -46,21 +46,21 @@ item_changes table sitting (item ∷ items) =
 -- the changes that an entry makes: those of its items if it is an upload, and otherwise none
 abbrev pub entry_changes : Limits → Table → KeptEntry → List Change
 entry_changes limits table e =
-    if is_upload e then item_changes table (entry_sitting limits e) (items_of e) else []
+    if is_upload e then item_changes table (entry_sitting limits e) (entry_items e) else []
 
 -- the changes that entries make, each on the table that those before it left
-abbrev pub changes_from : Limits → Table → History → List Change
-changes_from limits table [] = []
-changes_from limits table (e ∷ rest) =
-    entry_changes limits table e ++ changes_from limits (after_entry limits table e) rest
+abbrev pub changes_since : Limits → Table → History → List Change
+changes_since limits table [] = []
+changes_since limits table (e ∷ rest) =
+    entry_changes limits table e ++ changes_since limits (after_entry limits table e) rest
 
 -- the changes of records that a history made, from the first
 unfoldable pub changes : OfficeState → List Change
-changes office = changes_from office.limits no_rows office.history
+changes office = changes_since office.limits no_rows office.history
 
 -- the rows of the records after a change
-abbrev pub changed : Rows → Change → Rows
-changed rows change = insert rows (record_key (lei_in change.row)) change.row
+abbrev pub rows_after : Rows → Change → Rows
+rows_after rows change = insert rows (record_key (lei_in change.row)) change.row
 
 -- ---- who may make them
 
@@ -85,4 +85,4 @@ ChangesArePermitted office = All IsPermitted (changes office)
 -- the records of the register are the result of its changes, starting from none: nothing else adds or changes a record
 abbrev pub ChangesMakeRecords : OfficeState → Type 0
 ChangesMakeRecords office = (after office.limits office.history).records
-    ≡ fold changed no_rows.records (changes office)
+    ≡ fold rows_after no_rows.records (changes office)

@@ -3,15 +3,15 @@ use Rattle.std.specs.Prelude.{◌≡◌, ℕ, nat_le, nat_lt, List, [], ◌∷�
 use Rattle.std.specs.FinMap.{values}
 use Rattle.std.specs.Str.{bytes_eq}
 use Rattle.lei_code.specs.Texts.{Text}
-use Rattle.lei_outside.specs.Keeping.{number_of}
+use Rattle.lei_outside.specs.Keeping.{entry_number}
 use Rattle.lei_outside.specs.declared.entry.KeptEntry.{KeptEntry}
 use Rattle.lei_shapes.specs.declared.lists.RelationRegistration.{RelationRegistration}
 use Rattle.lei_records.specs.Relations.{registration_in}
 use Rattle.lei_records.specs.Rows.{Row}
 use Rattle.lei_records.specs.Tables.{KeyTexts, Rows, Table}
-use Rattle.copy_csv.specs.Sheets.{SheetRow, row_of}
+use Rattle.copy_csv.specs.Sheets.{SheetRow, row_of_texts}
 use Rattle.register_words.specs.declared.sheets.Sheet.{Sheet}
-use Rattle.copy_forms.specs.Trails.{Publication, Trail, is_among}
+use Rattle.copy_forms.specs.Trails.{Publication, Trail, is_key_among}
 use Rattle.register_table.specs.Held.{Held, cell_key, exception_kind, record_kind, relation_kind}
 use Rattle.register_table.specs.Touched.{touched}
 use Rattle.register_table.specs.Undos.{WriteList}
@@ -23,28 +23,28 @@ use Rattle.register_history.specs.State.{OfficeState}
 -- ---- the rows that are published
 
 -- the rows of a table that belong to a sheet, under their keys and in the order of the keys
-abbrev pub rows_in : Table → Sheet → Rows
-rows_in table Sheet.Lei = table.records
-rows_in table Sheet.Rr = table.relations
-rows_in table Sheet.Repex = table.exceptions
+abbrev pub sheet_rows : Table → Sheet → Rows
+sheet_rows table Sheet.Lei = table.records
+sheet_rows table Sheet.Rr = table.relations
+sheet_rows table Sheet.Repex = table.exceptions
 
 -- the registration of a relationship is annulled
-abbrev pub is_annulled : RelationRegistration → Bool
-is_annulled RelationRegistration.Issued = false
-is_annulled RelationRegistration.Published = false
-is_annulled RelationRegistration.Lapsed = false
-is_annulled RelationRegistration.Retired = false
-is_annulled RelationRegistration.Annulled = true
+abbrev pub is_annulled_relation : RelationRegistration → Bool
+is_annulled_relation RelationRegistration.Issued = false
+is_annulled_relation RelationRegistration.Published = false
+is_annulled_relation RelationRegistration.Lapsed = false
+is_annulled_relation RelationRegistration.Retired = false
+is_annulled_relation RelationRegistration.Annulled = true
 
 -- each row is published, except a relationship whose registration is annulled
 abbrev pub is_published : Sheet → Row → Bool
 is_published Sheet.Lei row = true
-is_published Sheet.Rr row = not (is_annulled (registration_in row))
+is_published Sheet.Rr row = not (is_annulled_relation (registration_in row))
 is_published Sheet.Repex row = true
 
 -- the rows of a sheet that are published from a table, in the order of their keys
 abbrev pub published_rows : Table → Sheet → List SheetRow
-published_rows table sheet = map (row_of sheet) (filter (is_published sheet) (values (rows_in table sheet)))
+published_rows table sheet = map (row_of_texts sheet) (filter (is_published sheet) (values (sheet_rows table sheet)))
 
 -- ---- the keys that were touched
 
@@ -82,18 +82,18 @@ keys_accepted_since number limits before (e ∷ rest) sheet =
 
 -- the number of the entry that made the latest publication, or 0 if there is none
 abbrev pub last_published : History → ℕ
-last_published history = number_of (last_entry (publications history))
+last_published history = entry_number (last_entry (publications history))
 
 -- the files of a publication are wide, if they may be, if its entry has the third rules or later ones
-abbrev pub is_wide : ℕ → Bool
-is_wide rules = nat_le 3 rules
+abbrev pub are_wide_rules : ℕ → Bool
+are_wide_rules rules = nat_le 3 rules
 
 -- The publication that an entry makes after these: its moment, whether its files are wide, the rows of the register
 -- that they leave, and the keys that were touched after the previous publication.
 abbrev pub publication_by : Limits → History → KeptEntry → Publication
 publication_by limits before e = record {
   moment = e.moment;
-  wide = is_wide e.rules;
+  wide = are_wide_rules e.rules;
   rows = published_rows (after limits before);
   touched = keys_touched (last_published before) (length before) (held_after limits before);
 }
@@ -103,14 +103,14 @@ abbrev pub published_by : Limits → History → KeptEntry → Trail
 published_by limits before e = if is_publication e then publication_by limits before e ∷ [] else []
 
 -- what the rest of a history publishes after the entries before it
-abbrev pub trail_behind : Limits → History → History → Trail
-trail_behind limits before [] = []
-trail_behind limits before (e ∷ rest) = published_by limits before e
-    ++ trail_behind limits (before ++ e ∷ []) rest
+abbrev pub trail_after : Limits → History → History → Trail
+trail_after limits before [] = []
+trail_after limits before (e ∷ rest) = published_by limits before e
+    ++ trail_after limits (before ++ e ∷ []) rest
 
 -- the publications of a history, the first of which has the number 1
 unfoldable pub trail : OfficeState → Trail
-trail office = trail_behind office.limits [] office.history
+trail office = trail_after office.limits [] office.history
 
 -- A publication counts a key as touched exactly if an item of that key was accepted between the previous publication
 -- and its own entry.
@@ -118,5 +118,5 @@ abbrev pub TouchedKeysWereAccepted : OfficeState → Type 0
 TouchedKeysWereAccepted office =
     (before rest : History) (e : KeptEntry) (sheet : Sheet) (k : KeyTexts)
     → office.history ≡ before ++ e ∷ rest
-    → is_among k ((publication_by office.limits before e).touched sheet)
-    ≡ is_among k (keys_accepted_since (last_published before) office.limits [] before sheet)
+    → is_key_among k ((publication_by office.limits before e).touched sheet)
+    ≡ is_key_among k (keys_accepted_since (last_published before) office.limits [] before sheet)

@@ -17,18 +17,18 @@ use Rattle.register_judge.specs.Taking.{Taken, take}
 use Rattle.register_table.specs.Held.{Held, TableState, no_rows, rows}
 use Rattle.register_table.specs.Undos.{IsLater, WriteList, touch_all}
 use Rattle.register_words.specs.declared.limits.Limits.{Limits}
-use Rattle.lei_outside.specs.Keeping.{number_of}
+use Rattle.lei_outside.specs.Keeping.{entry_number}
 use Rattle.upload_ledger.specs.History.{History, is_upload, last_entry}
 use Rattle.register_history.specs.State.{OfficeState}
 
 -- the items of a body after the checks of their fields by these rules, and none if the body isn't an upload
-abbrev pub items_in : Rules → Result (List RawItem) Malformed → List Readied
-items_in rules (Ok raws) = map (ready rules) raws
-items_in rules (Err fault) = []
+abbrev pub readied_items : Rules → Result (List RawItem) Malformed → List Readied
+readied_items rules (Ok raws) = map (ready rules) raws
+readied_items rules (Err fault) = []
 
 -- the items of an entry's body, read by the entry's rules
-abbrev pub items_of : KeptEntry → List Readied
-items_of e = items_in (rules_of e.rules) (upload e.body)
+abbrev pub entry_items : KeptEntry → List Readied
+entry_items e = readied_items (rules_of e.rules) (upload e.body)
 
 -- The sitting in which the items of an entry are judged: by the entry's rules, for its issuer, on the day of its
 -- moment, and under the limit on records.
@@ -41,7 +41,7 @@ take_items limits table e items = take table (entry_sitting limits e) items
 
 -- the table after an entry: an upload takes its items, and every other entry leaves it unchanged
 abbrev pub after_entry : Limits → Table → KeptEntry → Table
-after_entry limits table e = if is_upload e then (take_items limits table e (items_of e)).table else table
+after_entry limits table e = if is_upload e then (take_items limits table e (entry_items e)).table else table
 
 -- the table after a history, starting without records
 unfoldable pub after : Limits → History → Table
@@ -51,7 +51,7 @@ after limits history = fold (after_entry limits) no_rows history
 
 -- what an entry writes, judged on a table: the accepted items of an upload, and nothing for any other entry
 abbrev pub entry_writes : Limits → Table → KeptEntry → WriteList
-entry_writes limits table e = if is_upload e then (take_items limits table e (items_of e)).writes else []
+entry_writes limits table e = if is_upload e then (take_items limits table e (entry_items e)).writes else []
 
 -- the cells after an entry: each key that it writes has its number, and the row of the item or none
 abbrev pub held_after_entry : Limits → Held → KeptEntry → Held
@@ -71,4 +71,4 @@ pub record IsKeptAfter (limits : Limits) (history : History) (table : TableState
   pub held : table.held ≡ held_after limits history
   pub rows : rows table.held ≡ after limits history
   pub numbers : IsLater (length history + 1) table.held
-  pub last : number_of (last_entry history) ≡ length history
+  pub last : entry_number (last_entry history) ≡ length history

@@ -24,7 +24,7 @@ use Rattle.register_words.specs.declared.sheets.Sheet.{Sheet}
 use Rattle.copy_forms.specs.Trails.{Publication, Trail, copy_of, delta_between}
 use Rattle.register_words.specs.declared.base.Base.{Base}
 use Rattle.golden_shelf.specs.declared.fault.ShelfFault.{ShelfFault}
-use Rattle.golden_shelf.specs.Bases.{base_in, moments_of}
+use Rattle.golden_shelf.specs.Bases.{base_in, trail_moments}
 use Rattle.golden_shelf.specs.Shelves.{latest}
 use Rattle.register_words.specs.declared.reply.Kind.{Kind}
 use Rattle.register_words.specs.declared.reply.Kind.TheVariants.{Csv, Json}
@@ -34,7 +34,7 @@ use Rattle.register_words.specs.declared.reply.Refusal.TheVariants as refusals
 use Rattle.register_words.specs.declared.reply.Reply.{Reply}
 use Rattle.register_words.specs.declared.reply.Reply.TheVariants.{Text, Words}
 use Rattle.upload_ledger.specs.History.{History, accredited, kept, kept_bytes, Place, unknown_issuer, repeat_of, number_taken, ahead, fresh, place, publications, published, stamp, totals}
-use Rattle.answer_texts.specs.Answers.{accreditation_text, publication_text, status_text, upload_text}
+use Rattle.answer_texts.specs.Answers.{accreditation_text, publication_text, status_answer_text, upload_text}
 use Rattle.register_history.specs.Publications.{published_rows, trail}
 use Rattle.register_history.specs.Register.{after}
 use Rattle.register_history.specs.State.{OfficeState}
@@ -56,8 +56,8 @@ abbrev pub json_reply : ℕ → texts.Text → Reply
 json_reply code text = Text code Json text
 
 -- the reply that an entry's answer gives
-abbrev pub told : KeptEntry → Reply
-told e = json_reply (kind_status_code e.kind) e.answer
+abbrev pub entry_reply : KeptEntry → Reply
+entry_reply e = json_reply (kind_status_code e.kind) e.answer
 
 -- ---- what a request adds, by the rules and at the moment of the new entry
 
@@ -189,14 +189,14 @@ form_kind Form.Csv = Csv
 form_kind Form.Json = Json
 
 -- the copy of a sheet in the latest publication, which has this number
-abbrev pub copied : Sheet → Form → ℕ → Option Publication → Outcome
-copied sheet form number None = stays (Words NothingPublished)
-copied sheet form number (Some publication) =
+abbrev pub copy_of_latest : Sheet → Form → ℕ → Option Publication → Outcome
+copy_of_latest sheet form number None = stays (Words NothingPublished)
+copy_of_latest sheet form number (Some publication) =
     stays (Text 200 (form_kind form) (copy_of number publication sheet form))
 
 -- the same of a trail of publications
 abbrev pub copy_outcome : Sheet → Form → Trail → Outcome
-copy_outcome sheet form made = copied sheet form (length made) (latest made)
+copy_outcome sheet form made = copy_of_latest sheet form (length made) (latest made)
 
 -- the refusal that reports why there is no base
 abbrev pub base_refusal : ShelfFault → Refusal
@@ -206,15 +206,15 @@ base_refusal ShelfFault.NoBase = NoBase
 base_refusal ShelfFault.NoMemory = NoMemory
 
 -- the delta of a sheet from the base that was found to the latest publication, or why there is no base
-abbrev pub changed : Sheet → Form → Trail → Result ℕ ShelfFault → Option Publication → Outcome
-changed sheet form made (Err fault) last = stays (Words (base_refusal fault))
-changed sheet form made (Ok from) None = stays (Words NothingPublished)
-changed sheet form made (Ok from) (Some publication) =
+abbrev pub delta_to_latest : Sheet → Form → Trail → Result ℕ ShelfFault → Option Publication → Outcome
+delta_to_latest sheet form made (Err fault) last = stays (Words (base_refusal fault))
+delta_to_latest sheet form made (Ok from) None = stays (Words NothingPublished)
+delta_to_latest sheet form made (Ok from) (Some publication) =
     stays (Text 200 (form_kind form) (delta_between made from (length made) publication sheet form))
 
 -- the same from the base that is named
 abbrev pub delta_outcome : Base → Sheet → Form → Trail → Outcome
-delta_outcome base sheet form made = changed sheet form made (base_in (moments_of made) base) (latest made)
+delta_outcome base sheet form made = delta_to_latest sheet form made (base_in (trail_moments made) base) (latest made)
 
 -- a record is shown as it is held: a JSON object of its present fields
 abbrev pub show_outcome : Option Row → Outcome
@@ -227,7 +227,7 @@ held_counts table = (len table.records, len table.relations, len table.exception
 
 -- the numbers of what is kept and of what is held
 abbrev pub status_outcome : History → Table → Outcome
-status_outcome history table = stays (json_reply 200 (status_text (totals history) (held_counts table)))
+status_outcome history table = stays (json_reply 200 (status_answer_text (totals history) (held_counts table)))
 
 -- the outcome of a request, if an entry that is added has these rules and this moment
 abbrev pub outcome_at : OfficeState → Request → EntryTerms → Outcome
@@ -263,7 +263,7 @@ outcome office request moment = outcome_by newest_rules office request moment
 -- the reply that an outcome has
 abbrev pub reply_of : Outcome → Reply
 reply_of (stays reply) = reply
-reply_of (adds e) = told e
+reply_of (adds e) = entry_reply e
 
 -- the history after an outcome
 abbrev pub history_after : History → Outcome → History

@@ -13,5 +13,5 @@ abbrev pub office_of : Limits → History → OfficeState
 office_of limits history = record { limits = limits; history = history }
 
 -- the office with these limits that has taken nothing yet
-abbrev pub opened : Limits → OfficeState
-opened limits = office_of limits []
+abbrev pub new_office : Limits → OfficeState
+new_office limits = office_of limits []

@@ -7,7 +7,7 @@ use Rattle.lei_records.specs.Tables.{KeyTexts}
 use Rattle.register_table.specs.declared.touched.Touched.{Touched}
 use Rattle.register_table.specs.Cells.{IsItemOf}
 use Rattle.register_table.specs.Held.{Cell, Held}
-use Rattle.register_table.specs.Touched.{shown, touched}
+use Rattle.register_table.specs.Touched.{cell_under_key, touched}
 use Rattle.register_table.specs.Undos.{IsLater}
 use Rattle.register_history.specs.Kept.{IsKey, kept_cell}
 
@@ -24,7 +24,7 @@ pub record Touches (number : ℕ) (before after : Held) : Type 0 where
 pub record AreCellsTouched (after upto : ℕ) (held : Held) (cells : List KeptCell) : Type 0 where
   pub list : List Touched
   pub are : cells ≡ map kept_cell list
-  pub told : map shown list ≡ touched after upto held
+  pub told : map cell_under_key list ≡ touched after upto held
   pub keys : AllByRecursion (λ told. IsKey told.key) list
   pub own : AllByRecursion (λ told. IsItemOf told.key told.item) list
 

@@ -1,21 +1,21 @@
 //! Laws of the definitions. Each is the contract of a function that does nothing.
 ghost use Rattle.std.specs.Prelude.{◌≡◌, ◌<◌, ℤ, List, Contains, length};
-ghost use Rattle.lei_records.specs.Tables.{IsSound};
+ghost use Rattle.lei_records.specs.Tables.{IsSoundTable};
 ghost use Rattle.lei_outside.specs.Keeping.{KeptTables};
 ghost use Rattle.lei_outside.specs.declared.keeper.KeptCell.{KeptCell};
 ghost use Rattle.register_history.specs.Damage.{DamageExcludes, DamageIsOne, EntryTextsDiffer, LineTellsCell};
 ghost use Rattle.register_words.specs.declared.limits.Limits.{Limits};
 ghost use Rattle.upload_ledger.specs.History.{History, publications};
 ghost use Rattle.successor_rules.specs.Successors.{SuccessorChainsEnd};
-ghost use Rattle.relation_rules.specs.Parents.{AreApart, ParentChainsEnd};
+ghost use Rattle.relation_rules.specs.Parents.{ExceptionsExcludeParents, ParentChainsEnd};
 ghost use Rattle.register_words.specs.declared.reply.Refusal.TheVariants.{KeeperFault, NoMemory};
 ghost use Rattle.register_words.specs.declared.reply.Reply.{Reply};
 ghost use Rattle.register_words.specs.declared.reply.Reply.TheVariants.{Words};
 ghost use Rattle.register_words.specs.declared.request.Asked.{Asked};
 ghost use Rattle.register_words.specs.declared.request.Request.{Request};
-ghost use Rattle.register_history.specs.Legal.{Legal, MomentsNeverFall, Session, UploadsAreNumbered, replies_to};
+ghost use Rattle.register_history.specs.Legal.{Legal, MomentsNeverFall, OfficeSession, UploadsAreNumbered, replies_to};
 ghost use Rattle.register_history.specs.Parties.{ChangesArePermitted, ChangesMakeRecords};
-ghost use Rattle.copy_forms.specs.Trails.{IsSound as IsSoundTrail};
+ghost use Rattle.copy_forms.specs.Trails.{IsSoundTrail as IsSoundTrail};
 ghost use Rattle.register_history.specs.Publications.{TouchedKeysWereAccepted, trail};
 ghost use Rattle.register_history.specs.Kept.{TablesAreOne};
 ghost use Rattle.register_history.specs.Register.{CellsHaveTheRows, after};
@@ -47,7 +47,7 @@ pub fn publications_are_few()
 /// In the register of a legal history no two live records have the same authority key, and no two active relationships
 /// have the same start and type.
 pub fn registers_are_sound()
-    ensures { (office : OfficeState) → Legal office → IsSound (after office.limits office.history) }
+    ensures { (office : OfficeState) → Legal office → IsSoundTable (after office.limits office.history) }
 {}
 
 /// In the register of a legal history each successor that a record names is held, and each chain of successors ends.
@@ -64,7 +64,8 @@ pub fn parents_are_chained()
 
 /// In the register of a legal history no entity has both an active parent and the exception of its category.
 pub fn exceptions_stand_apart()
-    ensures { (office : OfficeState) → Legal office → AreApart (after office.limits office.history) }
+    ensures { (office : OfficeState) → Legal office
+        → ExceptionsExcludeParents (after office.limits office.history) }
 {}
 
 /// In a legal history each change of a record was permitted to the issuer that sent it.
@@ -124,6 +125,6 @@ pub fn kept_tables_are_one()
 /// moments determine.
 pub fn sessions_are_exact()
     ensures { (old new : OfficeState) (asks : List Asked) (moments : List ℤ) (replies : List Reply) →
-        Session old asks moments replies new → ¬ (Contains replies (Words NoMemory))
+        OfficeSession old asks moments replies new → ¬ (Contains replies (Words NoMemory))
         → ¬ (Contains replies (Words KeeperFault)) → replies ≡ replies_to old asks moments }
 {}

@@ -23,8 +23,8 @@ use Rattle.successor_rules.specs.Chains.{AllEnd, EndsIn, IsTurned, Nexts}
 use Rattle.lei_records.specs.Walks.{NameOne, successor_of, successors_of}
 use Rattle.successor_rules.specs.Successors.{SuccessorChainsEnd}
 use Rattle.lei_records.specs.Walks.{is_met, is_long}
-use Rattle.successor_rules.specs.Levels.{is_back, is_wide}
-use Rattle.successor_rules.specs.Walks.{walked}
+use Rattle.successor_rules.specs.Levels.{has_wide_levels, is_back}
+use Rattle.successor_rules.specs.Walks.{walk_end}
 use Rattle.successor_rules.proofs.ClearLemmas.{levels-keep_ends}
 use Rattle.successor_rules.proofs.ChainLemmas.{keeps_ends}
 use Rattle.successor_rules.proofs.WalkLemmas.{ended_walk_keeps_ends}
@@ -47,7 +47,7 @@ held_and_ends (Some cell) false true e = absurd (some_apart _ e)
 held_and_ends (Some cell) false false e = (refl, refl)
 
 one_passed : (table : Table) (row : Row) (successor : List ℕ) → first_failing (first_checks table row (Some successor)) ≡ None
-    → IsSome (record_of table successor) × (walked (successor_of table) (lei_in row) successor ≡ Walked.Ends)
+    → IsSome (record_of table successor) × (walk_end (successor_of table) (lei_in row) successor ≡ Walked.Ends)
 one_passed table row successor passes =
     held_and_ends (record_of table successor) (is_met (successor_of table) (lei_in row) successor) (is_long (successor_of table) successor) passes
 
@@ -178,7 +178,7 @@ levels_end table row (successor ∷ successors) chains names passes =
     let own = lei_in row in
     let nexts = successors_of table in
     let pass = all_pass (level_checks table row all) passes in
-    levels-keep_ends nexts own all (ended (is_wide nexts own all) (is_back nexts own all) pass.others.first pass.others.others.first)
+    levels-keep_ends nexts own all (ended (has_wide_levels nexts own all) (is_back nexts own all) pass.others.first pass.others.others.first)
     (successors_of (put table (Item.Record row))) chains.ends
     (subst (IsTurned nexts (successors_of (put table (Item.Record row))) own) names (turned table row))
   where

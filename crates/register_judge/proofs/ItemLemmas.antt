@@ -11,19 +11,19 @@ use Rattle.lei_code.specs.Texts.{Text}
 use Rattle.lei_records.specs.Cells.{Cells, akey, is_live, lei_in, successor_in, successors_in}
 use Rattle.lei_records.specs.Checks.{FailedCheck, first_failing}
 use Rattle.lei_records.specs.Exceptions.{exception_category_in, subject_in}
-use Rattle.lei_records.specs.Parents.{is_direct, parent_category, parent_type}
+use Rattle.lei_records.specs.Parents.{is_direct_type, parent_category, parent_type}
 use Rattle.lei_records.specs.Relations.{end_in, is_active, kind_in, start_in}
 use Rattle.lei_records.specs.Rows.{Row}
-use Rattle.lei_records.specs.Walks.{members}
+use Rattle.lei_records.specs.Walks.{walk_members}
 use Rattle.lei_records.specs.declared.item.Item.{Item}
 use Rattle.lei_records.specs.declared.item.Readied.{Readied}
 use Rattle.lei_records.specs.declared.view.CellKey.{CellKey}
 use Rattle.lei_records.specs.declared.view.RecCell.{RecCell}
 use Rattle.lei_records.specs.declared.view.Seen.{Seen}
 use Rattle.authority_rules.specs.Taken.{seen_holder, taken, unless_own}
-use Rattle.successor_rules.specs.Levels.{known_nexts, reached}
+use Rattle.successor_rules.specs.Levels.{known_nexts, reachable}
 use Rattle.successor_rules.specs.Successors.{spread}
-use Rattle.successor_rules.specs.Walks.{known}
+use Rattle.successor_rules.specs.Walks.{known_next}
 use Rattle.successor_rules.proofs.ReachLemmas.{near-tells}
 use Rattle.relation_rules.specs.declared.checked.Checked.{Checked}
 use Rattle.relation_rules.specs.Checking.{check_action, check_active, check_category, check_exception, check_managed, check_other_end, check_parents, check_relation, check_start, check_walked, checked_of, on_seen, unless_failed, walk_parents}
@@ -35,7 +35,7 @@ use Rattle.register_judge.specs.declared.judge.ItemOutcome.{ItemOutcome}
 use Rattle.lei_records.specs.declared.rules.Rules.{Rules}
 use Rattle.register_judge.specs.declared.sitting.Sitting.{Sitting}
 use Rattle.register_judge.specs.Checks.{c16, c19, own_checks}
-use Rattle.register_judge.specs.Judging.{check_key, check_named, check_record, check_each, check_first, check_levels, check_successors, judge_item, judge_record, judge_late, key_cell, outcome_by, value_seen}
+use Rattle.register_judge.specs.Judging.{check_key, check_named, check_record, check_each, check_first, check_levels, check_successors, judge_item, judge_record, judge_late, key_cell, item_outcome_by, value_seen}
 use Rattle.register_judge.proofs.MonotonyLemmas.{Less, LessAt, LessChecked, LessWalked, checked-same, contained, less-check_walked, less-on_seen, less-own, less-successor, less-unless_failed, less-walk_over, less-walked, nearer}
 
 -- a member's key is among the keys of the members
@@ -46,7 +46,7 @@ Contains-map f xs x at =
 -- ---- a relationship
 
 module _ (a b : Cells) (item : Row) (named : (key : CellKey) → Contains (relation_names item) key → LessAt a b key)
-    (walks : is_direct_parent item ≡ true → (member : List ℕ) → Contains (members 200 (known (parents_in a)) (end_in item)) member → LessAt a b (parent_key member)) where
+    (walks : is_direct_parent item ≡ true → (member : List ℕ) → Contains (walk_members 200 (known_next (parents_in a)) (end_in item)) member → LessAt a b (parent_key member)) where
   abbrev first_names : List CellKey
   first_names =
       CellKey.Rec (start_in item) ∷ CellKey.Rec (end_in item) ∷ CellKey.Rel (start_in item) (kind_in item) (end_in item)
@@ -72,7 +72,7 @@ module _ (a b : Cells) (item : Row) (named : (key : CellKey) → Contains (relat
   less_parents : is_active item ≡ true → LessChecked (check_parents a item) (check_parents b item)
   less_parents active =
       let category = parent_category (kind_in item) in
-      elim (is_direct (kind_in item)) as (λ d. is_direct (kind_in item) ≡ d → LessChecked
+      elim (is_direct_type (kind_in item)) as (λ d. is_direct_type (kind_in item) ≡ d → LessChecked
       (cond d (check_parents_of a) (check_category a item category)) (cond d (check_parents_of b) (check_category b item category))) [
         | true ↦ λ direct. less-check_walked 38 39 _ _ _ _
             (less-walk_over (parents_in a) (parents_in b) parent_key (start_in item) (end_in item) (walks (and_from _ _ active direct)))
@@ -136,9 +136,9 @@ abbrev pub LessJudged : Result ItemOutcome CellKey → Result ItemOutcome CellKe
 LessJudged (Ok judged) other = other ≡ Ok judged
 LessJudged (Err key) other = ⊤
 
-less_outcome : (a b : Checked) (passed : ItemOutcome) → LessChecked a b → LessJudged (outcome_by a passed) (outcome_by b passed)
-less_outcome Checked.Passes b passed less = ap (λ checked. outcome_by checked passed) less
-less_outcome (Checked.Fails check) b passed less = ap (λ checked. outcome_by checked passed) less
+less_outcome : (a b : Checked) (passed : ItemOutcome) → LessChecked a b → LessJudged (item_outcome_by a passed) (item_outcome_by b passed)
+less_outcome Checked.Passes b passed less = ap (λ checked. item_outcome_by checked passed) less
+less_outcome (Checked.Fails check) b passed less = ap (λ checked. item_outcome_by checked passed) less
 less_outcome (Checked.Missing key) b passed less = tt
 
 -- ---- a record
@@ -146,14 +146,14 @@ less_outcome (Checked.Missing key) b passed less = tt
 -- with the record that is held under its LEI, which the last checks need too
 less_late : (failed : Option FailedCheck) (a b : Seen RecCell) (own : CellKey) (f g : Option RecCell → Checked) (late : Option RecCell → ItemOutcome) → Less a b
     → ((held : Option RecCell) → LessChecked (f held) (g held))
-    → LessJudged (outcome_by (unless_failed failed (on_seen a own f)) (late (value_seen a)))
-    (outcome_by (unless_failed failed (on_seen b own g)) (late (value_seen b)))
+    → LessJudged (item_outcome_by (unless_failed failed (on_seen a own f)) (late (value_seen a)))
+    (item_outcome_by (unless_failed failed (on_seen b own g)) (late (value_seen b)))
 less_late (Some check) a b own f g late less then = refl
 less_late None (Seen.Held cell) b own f g late less then =
-    let P : Seen RecCell → Type 0 = λ seen. LessJudged (outcome_by (f (Some cell)) (late (Some cell))) (outcome_by (on_seen seen own g) (late (value_seen seen))) in
+    let P : Seen RecCell → Type 0 = λ seen. LessJudged (item_outcome_by (f (Some cell)) (late (Some cell))) (item_outcome_by (on_seen seen own g) (late (value_seen seen))) in
     subst P (sym less) (less_outcome (f (Some cell)) (g (Some cell)) (late (Some cell)) (then (Some cell)))
 less_late None Seen.Empty b own f g late less then =
-    let P : Seen RecCell → Type 0 = λ seen. LessJudged (outcome_by (f None) (late None)) (outcome_by (on_seen seen own g) (late (value_seen seen))) in
+    let P : Seen RecCell → Type 0 = λ seen. LessJudged (item_outcome_by (f None) (late None)) (item_outcome_by (on_seen seen own g) (late (value_seen seen))) in
     subst P (sym less) (less_outcome (f None) (g None) (late None) (then None))
 less_late None Seen.Missing b own f g late less then = tt
 
@@ -190,7 +190,7 @@ module _ (a b : Cells) (item : Row) (named : (key : CellKey) → Contains (recor
         (less-walk_over (next_successor a) (next_successor b) CellKey.Rec (lei_in item) successor (λ member at.
         less-successor (a.record_cell member) (b.record_cell member)
         (walks (CellKey.Rec member) (subst (λ s. Contains (successor_walk a s) (CellKey.Rec member)) (sym is)
-        (Contains-map CellKey.Rec (members 200 (known (next_successor a)) successor) member at))))) less_key)
+        (Contains-map CellKey.Rec (walk_members 200 (known_next (next_successor a)) successor) member at))))) less_key)
 
     less_first : ((key : CellKey) → Contains (successor_walk a (successor_in item)) key → LessAt a b key)
         → (successor : Option (List ℕ)) → successor_in item ≡ successor
@@ -206,7 +206,7 @@ module _ (a b : Cells) (item : Row) (named : (key : CellKey) → Contains (recor
     less_spread : (successors : List (List ℕ)) → ((key : CellKey) → Contains (level_walk a (lei_in item) successors) key → LessAt a b key)
         → LessWalked (spread a (lei_in item) successors) (spread b (lei_in item) successors)
     less_spread successors walks =
-        let all = reached (known_nexts (next_successors a)) (lei_in item) successors in
+        let all = reachable (known_nexts (next_successors a)) (lei_in item) successors in
         elim (near-tells (next_successors a) (next_successors b) CellKey.Rec (lei_in item) successors (λ lei at.
         nearer (a.record_cell lei) (b.record_cell lei) (walks (CellKey.Rec lei) (Contains-map CellKey.Rec all lei (contained all lei at))))) [
           | inl same ↦ less-walked (spread a (lei_in item) successors) (spread b (lei_in item) successors) (inl same)
@@ -254,10 +254,10 @@ module _ (a b : Cells) (item : Row) (named : (key : CellKey) → Contains (recor
 
 walks_of_parent : (a b : Cells) (item : Row)
     → ((key : CellKey) → Contains (cond (is_direct_parent item) (parent_walk a (end_in item)) []) key → LessAt a b key)
-    → is_direct_parent item ≡ true → (member : List ℕ) → Contains (members 200 (known (parents_in a)) (end_in item)) member → LessAt a b (parent_key member)
+    → is_direct_parent item ≡ true → (member : List ℕ) → Contains (walk_members 200 (known_next (parents_in a)) (end_in item)) member → LessAt a b (parent_key member)
 walks_of_parent a b item less direct member at =
     less (parent_key member) (subst (λ t. Contains (cond t (parent_walk a (end_in item)) []) (parent_key member)) (sym direct)
-    (Contains-map parent_key (members 200 (known (parents_in a)) (end_in item)) member at))
+    (Contains-map parent_key (walk_members 200 (known_next (parents_in a)) (end_in item)) member at))
 
 pub less-item : (a b : Cells) (full : Bool) (sitting : Sitting) (item : Readied) → ((key : CellKey) → Contains (needs sitting.rules a item) key → LessAt a b key)
     → LessJudged (judge_item a full sitting item) (judge_item b full sitting item)

@@ -14,7 +14,7 @@ use Rattle.lei_records.specs.Exceptions.{exception_category_in, is_same_category
 use Rattle.lei_records.specs.Relations.{end_in, is_active, rel_cell}
 use Rattle.lei_records.specs.Rows.{Row}
 use Rattle.lei_records.specs.Tables.{seen_fact}
-use Rattle.lei_records.specs.Walks.{is_long, is_met, members}
+use Rattle.lei_records.specs.Walks.{is_long, is_met, walk_members}
 use Rattle.lei_records.specs.declared.item.Item.{Item}
 use Rattle.lei_records.specs.declared.item.Readied.{Readied}
 use Rattle.lei_records.specs.declared.view.CellKey.{CellKey}
@@ -23,10 +23,10 @@ use Rattle.lei_records.specs.declared.view.RowKey.{RowKey}
 use Rattle.lei_records.specs.declared.view.Seen.{Seen}
 use Rattle.authority_rules.specs.Taken.{seen_holder, taken, unless_own}
 use Rattle.successor_rules.specs.declared.walks.Walked.{Walked}
-use Rattle.successor_rules.specs.Successors.{named, spread, successor_seen, successors_seen, walk}
-use Rattle.successor_rules.specs.Levels.{known_nexts, lacks_nexts, reached}
+use Rattle.successor_rules.specs.Successors.{seen_successor, spread, successor_seen, successors_seen, walk}
+use Rattle.successor_rules.specs.Levels.{known_nexts, lacks_nexts, reachable}
 use Rattle.successor_rules.proofs.ReachLemmas.{spread-lacks}
-use Rattle.successor_rules.specs.Walks.{is_missing, known, lacking, unless_lacking}
+use Rattle.successor_rules.specs.Walks.{is_unknown, known_next, lacking, unless_lacking}
 use Rattle.relation_rules.proofs.NeedLemmas.{exception_told, relation_told}
 use Rattle.relation_rules.specs.declared.checked.Checked.{Checked}
 use Rattle.relation_rules.specs.Checking.{check_walked, checked_of, on_seen, unless_failed}
@@ -39,8 +39,8 @@ use Rattle.lei_records.specs.declared.rules.Rules.{Rules}
 use Rattle.register_judge.specs.declared.sitting.Sitting.{Sitting}
 use Rattle.register_judge.specs.Agreement.{IsNeededIn}
 use Rattle.register_judge.specs.Checks.{c16, c19}
-use Rattle.register_judge.specs.Judging.{Judgement, before, cells_after, check_key, check_named, check_record, check_each, check_first, check_levels, check_successors, check_with_held, count_after, item_in_front, judge_item, judge_items, key_cell, outcome_by, put_writes}
-use Rattle.register_judge.specs.Overlays.{is_between, put_cells, put_exception, put_record, put_relation}
+use Rattle.register_judge.specs.Judging.{Judgement, before, cells_after, check_key, check_named, check_record, check_each, check_first, check_levels, check_successors, check_with_held, count_after, item_in_front, judge_item, judge_items, key_cell, item_outcome_by, put_writes}
+use Rattle.register_judge.specs.Overlays.{is_between, put_exception, put_in_view, put_record, put_relation}
 use Rattle.register_judge.specs.Sittings.{is_at_limit}
 use Rattle.register_judge.specs.Taking.{writes_of}
 use Rattle.register_judge.proofs.ItemLemmas.{Contains-map}
@@ -97,7 +97,7 @@ exception_lacking cells lei category stands (CellKey.Exc own other) lacking =
 exception_lacking cells lei category stands (CellKey.Key authority id) lacking = lacking
 exception_lacking cells lei category stands (CellKey.Act start kind) lacking = lacking
 
-put_lacking : (cells : Cells) (write : RowKey × Option Item) (key : CellKey) → IsTrue (lacks (put_cells cells write) key) → IsTrue (lacks cells key)
+put_lacking : (cells : Cells) (write : RowKey × Option Item) (key : CellKey) → IsTrue (lacks (put_in_view cells write) key) → IsTrue (lacks cells key)
 put_lacking cells (row_key, Some (Item.Record row)) key lacking = record_lacking cells row key lacking
 put_lacking cells (row_key, Some (Item.Relation row)) key lacking = relation_lacking cells row key lacking
 put_lacking cells (row_key, Some (Item.Exception item)) key lacking =
@@ -108,7 +108,7 @@ put_lacking cells (RowKey.Rel start kind end, None) key lacking = lacking
 
 puts_lacking : (writes : List (RowKey × Option Item)) (cells : Cells) (key : CellKey) → IsTrue (lacks (put_writes writes cells) key) → IsTrue (lacks cells key)
 puts_lacking [] cells key lacking = lacking
-puts_lacking (write ∷ writes) cells key lacking = put_lacking cells write key (puts_lacking writes (put_cells cells write) key lacking)
+puts_lacking (write ∷ writes) cells key lacking = put_lacking cells write key (puts_lacking writes (put_in_view cells write) key lacking)
 
 -- ---- what reports a missing cell
 
@@ -144,11 +144,11 @@ lacked own false None false key is = cc
 lacked own false (Some lei) long key is = (lei, refl, cc)
 
 -- what a record names, a successor or none, isn't missing
-named_known : (successor : Option (List ℕ)) → is_missing (named successor) ≡ false
+named_known : (successor : Option (List ℕ)) → is_unknown (seen_successor successor) ≡ false
 named_known None = refl
 named_known (Some lei) = refl
 
-successor_lacking : (seen : Seen RecCell) → is_missing (successor_seen seen) ≡ is_lacking seen
+successor_lacking : (seen : Seen RecCell) → is_unknown (successor_seen seen) ≡ is_lacking seen
 successor_lacking (Seen.Held cell) = named_known (slice_get cell.successors 0)
 successor_lacking Seen.Empty = refl
 successor_lacking Seen.Missing = refl
@@ -202,9 +202,9 @@ module _ (cells : Cells) (item : Row) (key : CellKey) where
   of_walk_told : (successor : List ℕ) → successor_in item ≡ Some successor → walk cells (lei_in item) successor ≡ Walked.Missing key → Told Rules.First cells item key
   of_walk_told successor names is =
       let answers = next_successor cells in
-      let found = lacked CellKey.Rec (is_met (known answers) (lei_in item) successor) (lacking answers successor) (is_long (known answers) successor) key is in
-      let test : List ℕ → Bool = λ lei. is_missing (answers lei) in
-      let all = members 200 (known answers) successor in
+      let found = lacked CellKey.Rec (is_met (known_next answers) (lei_in item) successor) (lacking answers successor) (is_long (known_next answers) successor) key is in
+      let test : List ℕ → Bool = λ lei. is_unknown (answers lei) in
+      let all = walk_members 200 (known_next answers) successor in
       let own = CellKey.Rec found.0 in
       let of_walk : Contains (successor_walk cells (successor_in item)) own =
       subst (λ s. Contains (successor_walk cells s) own) (sym names) (Contains-map CellKey.Rec all found.0 (find-member test all found.0 found.1)) in
@@ -230,21 +230,21 @@ module _ (rules : Rules) (cells : Cells) (item : Row) (key : CellKey) (by_levels
 
   each_told : (successors : List (List ℕ)) (next : Checked) → ((lei : List ℕ) → Contains successors lei → Contains (successors_in item) lei)
       → check_each cells successors next ≡ Checked.Missing key → (next ≡ Checked.Missing key → ToldNow) → ToldNow
-  each_told [] next named is then = then is
-  each_told (successor ∷ successors) next named is then =
+  each_told [] next seen_successor is then = then is
+  each_told (successor ∷ successors) next seen_successor is then =
       let own = CellKey.Rec successor in
       seen_told (cells.record_cell successor) own _ key ToldNow is
       (named_told rules cells item key own (others_at rules cells item key own
       (Contains-append_right (key_names (akey item)) (successor_names (successors_in item)) own
-      (Contains-map CellKey.Rec (successors_in item) successor (named successor (0, omega arith, refl))))))
-      (λ found rest. each_told successors next (λ lei at. named lei (Contains-append_right (successor ∷ []) successors lei at))
+      (Contains-map CellKey.Rec (successors_in item) successor (seen_successor successor (0, omega arith, refl))))))
+      (λ found rest. each_told successors next (λ lei at. seen_successor lei (Contains-append_right (successor ∷ []) successors lei at))
       (unless_told (first_failing (c16 found ∷ [])) (check_each cells successors next) key rest) then)
 
   spread_wants : (successors : List (List ℕ)) → successors_in item ≡ successors → spread cells (lei_in item) successors ≡ Walked.Missing key → ToldNow
   spread_wants successors are is =
       let answers = next_successors cells in
       let found = spread-lacks answers CellKey.Rec (lei_in item) successors key is in
-      let all = reached (known_nexts answers) (lei_in item) successors in
+      let all = reachable (known_nexts answers) (lei_in item) successors in
       let own = CellKey.Rec found.0 in
       let of_walk : Contains (record_walk rules cells item) own =
       subst (λ walk. Contains walk own) (sym by_levels)
@@ -277,7 +277,7 @@ module _ (cells : Cells) (item : Row) (key : CellKey) where
 
 -- ---- an item
 
-outcome_told : (checked : Checked) (passed : ItemOutcome) (key : CellKey) → outcome_by checked passed ≡ Err key → checked ≡ Checked.Missing key
+outcome_told : (checked : Checked) (passed : ItemOutcome) (key : CellKey) → item_outcome_by checked passed ≡ Err key → checked ≡ Checked.Missing key
 outcome_told Checked.Passes passed key is = cc
 outcome_told (Checked.Fails check) passed key is = cc
 outcome_told (Checked.Missing own) passed key is = let same : own ≡ key = cc in ap Checked.Missing same
@@ -288,7 +288,7 @@ relation_needs rules cells item key (inl named) =
     Contains-append_left (relation_names item) (cond (is_direct_parent item) (parent_walk cells (end_in item)) []) key named
 relation_needs rules cells item key (inr of_walk) =
     let walk : Contains (parent_walk cells (end_in item)) (parent_key of_walk.member) =
-    Contains-map parent_key (members 200 (known (parents_in cells)) (end_in item)) of_walk.member of_walk.stands in
+    Contains-map parent_key (walk_members 200 (known_next (parents_in cells)) (end_in item)) of_walk.member of_walk.stands in
     Contains-append_right (relation_names item) (cond (is_direct_parent item) (parent_walk cells (end_in item)) []) key
     (subst (λ t. Contains (cond t (parent_walk cells (end_in item)) []) key) (sym of_walk.direct) (subst (Contains (parent_walk cells (end_in item))) (sym of_walk.is) walk))
 

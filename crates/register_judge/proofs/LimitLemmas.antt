@@ -6,7 +6,7 @@ use Rattle.std.proofs.lemmas.Bool.Decides.{nat_tests}
 use Rattle.lei_records.proofs.PassLemmas.{first_failing-append}
 use Rattle.lei_records.specs.Cells.{lei_in}
 use Rattle.lei_records.specs.Checks.{FailedCheck, Finding, first_failing}
-use Rattle.lei_records.specs.Tables.{IsSound, Table, put_all, record_count, record_of}
+use Rattle.lei_records.specs.Tables.{IsSoundTable, Table, put_all, record_count, record_of}
 use Rattle.lei_records.specs.declared.item.Item.{Item}
 use Rattle.lei_records.specs.declared.item.Readied.{Readied}
 use Rattle.lei_records.specs.declared.view.RecCell.{RecCell}
@@ -94,7 +94,7 @@ below_more : (count limit most : ℕ) → limit ≤ most → limit ≤ count + m
 below_more count limit most less = omega arith
 
 pub plan-taken : (outcome : Outcome) (limit : ℕ) (today : ℤ) (issuer : List ℕ) (items : List Readied) (table : Table)
-    → IsAgreed outcome 4294967295 today issuer items → IsSound table → Agrees outcome.reads table
+    → IsAgreed outcome 4294967295 today issuer items → IsSoundTable table → Agrees outcome.reads table
     → record_count table + outcome.new_records ≤ limit → limit ≤ 4294967295
     → (let taken = take table (sitting_by newest limit today issuer) items in Shows outcome taken.verdicts taken.writes taken.new_records)
 plan-taken outcome limit today issuer items table agreed sound agrees fits less =

@@ -12,13 +12,13 @@ use Rattle.lei_records.specs.declared.view.CellKey.{CellKey}
 use Rattle.lei_records.specs.declared.view.RecCell.{RecCell}
 use Rattle.lei_records.specs.declared.view.Seen.{Seen}
 use Rattle.lei_records.specs.Cells.{Cells}
-use Rattle.lei_records.specs.Walks.{Next, members}
+use Rattle.lei_records.specs.Walks.{Next, walk_members}
 use Rattle.authority_rules.specs.Taken.{unless_own}
 use Rattle.successor_rules.specs.declared.walks.Walked.{Walked}
 use Rattle.successor_rules.specs.Levels.{lacks_nexts}
-use Rattle.successor_rules.specs.Successors.{named, successor_seen, successors_seen}
+use Rattle.successor_rules.specs.Successors.{seen_successor, successor_seen, successors_seen}
 use Rattle.successor_rules.proofs.LevelLemmas.{has, same_text}
-use Rattle.successor_rules.specs.Walks.{SeenNext, held, known, walk_over}
+use Rattle.successor_rules.specs.Walks.{SeenNext, held_lei, known_next, walk_over}
 use Rattle.successor_rules.proofs.WalkLemmas.{walk_in, walk_in-ends, walk_in-lacks, walk_in-meets, walk_in-next, walk_in-zero}
 use Rattle.relation_rules.specs.declared.checked.Checked.{Checked}
 use Rattle.relation_rules.specs.Checking.{check_walked, on_seen, unless_failed}
@@ -53,8 +53,8 @@ less-own own Seen.Missing b less = tt
 
 pub less-successor : (a b : Seen RecCell) → Less a b → Less (successor_seen a) (successor_seen b)
 less-successor (Seen.Held cell) b less =
-    let P : Seen RecCell → Type 0 = λ seen. Less (named (slice_get cell.successors 0)) (successor_seen seen) in
-    subst P (sym less) (less-same (named (slice_get cell.successors 0)))
+    let P : Seen RecCell → Type 0 = λ seen. Less (seen_successor (slice_get cell.successors 0)) (successor_seen seen) in
+    subst P (sym less) (less-same (seen_successor (slice_get cell.successors 0)))
 less-successor Seen.Empty b less = ap successor_seen less
 less-successor Seen.Missing b less = tt
 
@@ -97,19 +97,19 @@ walked-by a a' b b' a_is b_is less =
     let P : Walked → Type 0 = λ walked. LessWalked walked b in
     subst P (sym a_is) (subst (LessWalked a') (sym b_is) less)
 
-first_of : (n : ℕ) (next : Next) (first : List ℕ) → Contains (members (suc n) next first) first
-unfolding members
-first_of n next first = Contains-append_left (first ∷ []) (option_map_or (members n next) (next first) []) first (0, omega arith, refl)
+first_of : (n : ℕ) (next : Next) (first : List ℕ) → Contains (walk_members (suc n) next first) first
+unfolding walk_members
+first_of n next first = Contains-append_left (first ∷ []) (option_map_or (walk_members n next) (next first) []) first (0, omega arith, refl)
 
-others_of : (n : ℕ) (next : Next) (first lei member : List ℕ) → next first ≡ Some lei → Contains (members n next lei) member
-    → Contains (members (suc n) next first) member
-unfolding members
+others_of : (n : ℕ) (next : Next) (first lei member : List ℕ) → next first ≡ Some lei → Contains (walk_members n next lei) member
+    → Contains (walk_members (suc n) next first) member
+unfolding walk_members
 others_of n next first lei member is at =
-    subst (λ named. Contains (first ∷ option_map_or (members n next) named []) member) (sym is) (Contains-append_right (first ∷ []) (members n next lei) member at)
+    subst (λ named. Contains (first ∷ option_map_or (walk_members n next) named []) member) (sym is) (Contains-append_right (first ∷ []) (walk_members n next lei) member at)
 
 -- this holds for the answers for the members of the walk, as far as the first view knows it
 abbrev pub LessAlong : ℕ → SeenNext → SeenNext → List ℕ → Type 0
-LessAlong n a b first = (member : List ℕ) → Contains (members n (known a) first) member → Less (a member) (b member)
+LessAlong n a b first = (member : List ℕ) → Contains (walk_members n (known_next a) first) member → Less (a member) (b member)
 
 module _ (a b : SeenNext) (key : List ℕ → CellKey) (start : List ℕ) where
   -- the walks of up to this many members
@@ -121,12 +121,12 @@ module _ (a b : SeenNext) (key : List ℕ → CellKey) (start : List ℕ) where
       → LessAlong (suc n) a b first → a first ≡ seen → LessWalked (walk_in (suc n) a key start first) (walk_in (suc n) b key start first)
   less_step n first (Seen.Held lei) rest other less is =
       let same : b first ≡ Seen.Held lei =
-      (let P : Seen (List ℕ) → Type 0 = λ seen. Less seen (b first) in subst P is (less first (first_of n (known a) first))) in
+      (let P : Seen (List ℕ) → Type 0 = λ seen. Less seen (b first) in subst P is (less first (first_of n (known_next a) first))) in
       walked-by _ (walk_in n a key start lei) _ (walk_in n b key start lei) (walk_in-next n a key start first lei other is) (walk_in-next n b key start first lei other same)
-      (rest lei (λ member at. less member (others_of n (known a) first lei member (ap held is) at)))
+      (rest lei (λ member at. less member (others_of n (known_next a) first lei member (ap held_lei is) at)))
   less_step n first Seen.Empty rest other less is =
       let same : b first ≡ Seen.Empty =
-      (let P : Seen (List ℕ) → Type 0 = λ seen. Less seen (b first) in subst P is (less first (first_of n (known a) first))) in
+      (let P : Seen (List ℕ) → Type 0 = λ seen. Less seen (b first) in subst P is (less first (first_of n (known_next a) first))) in
       walked-by _ Walked.Ends _ Walked.Ends (walk_in-ends n a key start first other is) (walk_in-ends n b key start first other same) refl
   less_step n first Seen.Missing rest other less is =
       walked-by _ (Walked.Missing (key first)) _ _ (walk_in-lacks n a key start first other is) refl tt

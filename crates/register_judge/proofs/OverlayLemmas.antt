@@ -7,7 +7,7 @@ use Rattle.std.proofs.Math.Bool.{and-false}
 use Rattle.lei_shapes.specs.declared.lists.ExceptionCategory.{ExceptionCategory}
 use Rattle.lei_shapes.specs.declared.lists.RelationType.{RelationType}
 use Rattle.lei_records.specs.declared.view.Seen.{Seen}
-use Rattle.lei_records.specs.Cells.{Cells, lei_in, rec_cell, is_live, akey, is_key, holds}
+use Rattle.lei_records.specs.Cells.{Cells, lei_in, rec_cell, is_live, akey, is_authority_key, holds}
 use Rattle.lei_records.specs.Relations.{end_in, is_active, rel_cell}
 use Rattle.lei_records.specs.Rows.{Row}
 use Rattle.lei_records.specs.Tables.{seen_fact}
@@ -15,23 +15,23 @@ use Rattle.authority_rules.specs.Taken.{unless_own}
 use Rattle.authority_rules.proofs.HolderLemmas.{bytes_itself}
 use Rattle.lei_records.specs.Exceptions.{is_same_category}
 use Rattle.relation_rules.specs.Checks.{is_from}
-use Rattle.register_judge.specs.Overlays.{Ends, Records, Relations, Standing, Takers, end_at, has_record, is_active_row, is_between, overlaid, put_exception, put_record, put_relation, record_at, relation_at, row_holds, stands_at, taker_at, unless_replaced, with_active, with_end, with_exception, with_record, with_relation, with_taker}
+use Rattle.register_judge.specs.Overlays.{ActiveEnds, ExceptionsPut, Records, Relations, Takers, end_at, end_over, exception_over, exception_put_at, has_record, is_active_row, is_between, put_exception, put_record, put_relation, record_at, record_over, relation_at, relation_over, row_holds, taker_at, unless_replaced, with_active, with_overlay, with_taker}
 
 -- ---- the key that a record holds
 
 pub holds-dead : (row : Row) (authority id : List ℕ) → is_live row ≡ false → holds authority id row ≡ false
 unfolding holds
-holds-dead row authority id dead = ap (λ b. b && is_key authority id (akey row)) dead
+holds-dead row authority id dead = ap (λ b. b && is_authority_key authority id (akey row)) dead
 
 pub holds-no_key : (row : Row) (authority id : List ℕ) → None ≡ akey row → holds authority id row ≡ false
 unfolding holds
-holds-no_key row authority id none = ap (λ k. is_live row && is_key authority id k) (sym none) ∙ and-false (is_live row)
+holds-no_key row authority id none = ap (λ k. is_live row && is_authority_key authority id k) (sym none) ∙ and-false (is_live row)
 
 pub holds-key : (row : Row) (key : List ℕ × List ℕ) (authority id : List ℕ) → is_live row ≡ true → Some key ≡ akey row
     → holds authority id row ≡ bytes_eq key.0 authority && bytes_eq key.1 id
 unfolding holds
 holds-key row key authority id live is =
-    ap (λ k. is_live row && is_key authority id k) (sym is) ∙ ap (λ b. b && (bytes_eq key.0 authority && bytes_eq key.1 id)) live
+    ap (λ k. is_live row && is_authority_key authority id k) (sym is) ∙ ap (λ b. b && (bytes_eq key.0 authority && bytes_eq key.1 id)) live
 
 -- to note the key of a live record is to note the key that it holds
 pub taker_at-key : (row : Row) (key : List ℕ × List ℕ) (lei : List ℕ) (old new : Takers) → is_live row ≡ true → Some key ≡ akey row → lei ≡ lei_in row
@@ -42,15 +42,15 @@ taker_at-key row key lei old new live is same noted a i =
 
 -- ---- the cells
 
-module _ (below : Cells) (records later : Records) (takers newer : Takers) (relations : Relations) (ends : Ends) (standing : Standing) (row : Row)
+module _ (below : Cells) (records later : Records) (takers newer : Takers) (relations : Relations) (ends : ActiveEnds) (standing : ExceptionsPut) (row : Row)
     (by_code : (lei : List ℕ) → record_at later lei ≡ cond (bytes_eq lei (lei_in row)) (Some row) (record_at records lei))
     (by_key : (authority id : List ℕ) → taker_at newer authority id ≡ cond (holds authority id row) (Some (lei_in row)) (taker_at takers authority id)) where
-  cell : (lei : List ℕ) → with_record (record_at later lei) (below.record_cell lei)
-      ≡ cond (bytes_eq lei (lei_in row)) (Seen.Held (rec_cell row)) (with_record (record_at records lei) (below.record_cell lei))
+  cell : (lei : List ℕ) → record_over (record_at later lei) (below.record_cell lei)
+      ≡ cond (bytes_eq lei (lei_in row)) (Seen.Held (rec_cell row)) (record_over (record_at records lei) (below.record_cell lei))
   cell lei =
-      ap (λ r. with_record r (below.record_cell lei)) (by_code lei)
-      ∙ elim (bytes_eq lei (lei_in row)) as (λ b. with_record (cond b (Some row) (record_at records lei)) (below.record_cell lei)
-      ≡ cond b (Seen.Held (rec_cell row)) (with_record (record_at records lei) (below.record_cell lei))) [ true ↦ refl | false ↦ refl ]
+      ap (λ r. record_over r (below.record_cell lei)) (by_code lei)
+      ∙ elim (bytes_eq lei (lei_in row)) as (λ b. record_over (cond b (Some row) (record_at records lei)) (below.record_cell lei)
+      ≡ cond b (Seen.Held (rec_cell row)) (record_over (record_at records lei) (below.record_cell lei))) [ true ↦ refl | false ↦ refl ]
 
   -- a holder below, after one more record is replaced
   below_holder : (seen : Seen (List ℕ)) → unless_replaced later seen ≡ unless_own (lei_in row) (unless_replaced records seen)
@@ -106,23 +106,23 @@ module _ (below : Cells) (records later : Records) (takers newer : Takers) (rela
       ] refl
 
   -- the cells through the maps with one more record are the cells with the record put
-  pub overlaid-put_record : overlaid below later newer relations ends standing ≡ put_record (overlaid below records takers relations ends standing) row
-  overlaid-put_record = λ i. record (overlaid below records takers relations ends standing) {
+  pub overlaid-put_record : with_overlay below later newer relations ends standing ≡ put_record (with_overlay below records takers relations ends standing) row
+  overlaid-put_record = λ i. record (with_overlay below records takers relations ends standing) {
     record_cell = λ lei. cell lei i;
     holder = λ authority id. holder authority id i;
   }
 
 -- ---- relationships
 
-module _ (below : Cells) (records : Records) (takers : Takers) (relations later : Relations) (ends newer : Ends) (standing : Standing) (row : Row)
+module _ (below : Cells) (records : Records) (takers : Takers) (relations later : Relations) (ends newer : ActiveEnds) (standing : ExceptionsPut) (row : Row)
     (by_key : (start : List ℕ) (kind : RelationType) (end : List ℕ) → relation_at later start kind end ≡ cond (is_between start kind end row) (Some row) (relation_at relations start kind end))
     (by_start : (start : List ℕ) (kind : RelationType) → end_at newer start kind ≡ cond (is_active row && is_from start kind row) (Some (end_in row)) (end_at ends start kind)) where
-  own_cell : (start : List ℕ) (kind : RelationType) (end : List ℕ) → with_relation (relation_at later start kind end) (below.relation start kind end)
-      ≡ cond (is_between start kind end row) (Seen.Held (rel_cell row)) (with_relation (relation_at relations start kind end) (below.relation start kind end))
+  own_cell : (start : List ℕ) (kind : RelationType) (end : List ℕ) → relation_over (relation_at later start kind end) (below.relation start kind end)
+      ≡ cond (is_between start kind end row) (Seen.Held (rel_cell row)) (relation_over (relation_at relations start kind end) (below.relation start kind end))
   own_cell start kind end =
-      ap (λ r. with_relation r (below.relation start kind end)) (by_key start kind end)
-      ∙ elim (is_between start kind end row) as (λ b. with_relation (cond b (Some row) (relation_at relations start kind end)) (below.relation start kind end)
-      ≡ cond b (Seen.Held (rel_cell row)) (with_relation (relation_at relations start kind end) (below.relation start kind end))) [ true ↦ refl | false ↦ refl ]
+      ap (λ r. relation_over r (below.relation start kind end)) (by_key start kind end)
+      ∙ elim (is_between start kind end row) as (λ b. relation_over (cond b (Some row) (relation_at relations start kind end)) (below.relation start kind end)
+      ≡ cond b (Seen.Held (rel_cell row)) (relation_over (relation_at relations start kind end) (below.relation start kind end))) [ true ↦ refl | false ↦ refl ]
 
   module _ (start : List ℕ) (kind : RelationType) where
     -- the relationships of a start and a type, by their ends
@@ -138,7 +138,7 @@ module _ (below : Cells) (records : Records) (takers : Takers) (relations later 
     along t end = at_end end ∙ ap (λ b. cond (b && bytes_eq end (end_in row)) (Some row) (relation_at relations start kind end)) t
 
     -- if the row has another start or type, nothing changes
-    same_end : is_from start kind row ≡ false → (found : Option (List ℕ)) (seen : Seen (List ℕ)) → with_end later start kind found seen ≡ with_end relations start kind found seen
+    same_end : is_from start kind row ≡ false → (found : Option (List ℕ)) (seen : Seen (List ℕ)) → end_over later start kind found seen ≡ end_over relations start kind found seen
     same_end f None Seen.Empty = refl
     same_end f None Seen.Missing = refl
     same_end f None (Seen.Held end) = ap (λ r. cond (is_some r) Seen.Empty (Seen.Held end)) (beside f end)
@@ -146,7 +146,7 @@ module _ (below : Cells) (records : Records) (takers : Takers) (relations later 
 
     -- if it has this start and type and isn't active, its own end is no longer active
     left_end : is_from start kind row ≡ true → is_active row ≡ false → (found : Option (List ℕ)) (seen : Seen (List ℕ))
-        → with_end later start kind found seen ≡ unless_own (end_in row) (with_end relations start kind found seen)
+        → end_over later start kind found seen ≡ unless_own (end_in row) (end_over relations start kind found seen)
     left_end t idle None Seen.Empty = refl
     left_end t idle None Seen.Missing = refl
     left_end t idle None (Seen.Held end) =
@@ -180,47 +180,47 @@ module _ (below : Cells) (records : Records) (takers : Takers) (relations later 
         ] refl
 
     -- if it is active, so is its end
-    own_end : is_from start kind row ≡ true → is_active row ≡ true → (seen : Seen (List ℕ)) → with_end later start kind (Some (end_in row)) seen ≡ Seen.Held (end_in row)
+    own_end : is_from start kind row ≡ true → is_active row ≡ true → (seen : Seen (List ℕ)) → end_over later start kind (Some (end_in row)) seen ≡ Seen.Held (end_in row)
     own_end t active seen =
         let here : relation_at later start kind (end_in row) ≡ Some row =
         along t (end_in row) ∙ ap (λ b. cond b (Some row) (relation_at relations start kind (end_in row))) (bytes_itself (end_in row)) in
         ap (λ r. cond (is_active_row r) (Seen.Held (end_in row)) Seen.Empty) here ∙ ap (λ b. cond b (Seen.Held (end_in row)) Seen.Empty) active
 
-    active_cell : with_end later start kind (end_at newer start kind) (below.active start kind)
-        ≡ cond (is_from start kind row) (with_active row (with_end relations start kind (end_at ends start kind) (below.active start kind)))
-        (with_end relations start kind (end_at ends start kind) (below.active start kind))
+    active_cell : end_over later start kind (end_at newer start kind) (below.active start kind)
+        ≡ cond (is_from start kind row) (with_active row (end_over relations start kind (end_at ends start kind) (below.active start kind)))
+        (end_over relations start kind (end_at ends start kind) (below.active start kind))
     active_cell =
         let seen = below.active start kind in
-        let before = with_end relations start kind (end_at ends start kind) seen in
-        ap (λ e. with_end later start kind e seen) (by_start start kind)
+        let before = end_over relations start kind (end_at ends start kind) seen in
+        ap (λ e. end_over later start kind e seen) (by_start start kind)
         ∙ elim (is_from start kind row) as (λ f. is_from start kind row ≡ f
-        → with_end later start kind (cond (is_active row && f) (Some (end_in row)) (end_at ends start kind)) seen ≡ cond f (with_active row before) before) [
+        → end_over later start kind (cond (is_active row && f) (Some (end_in row)) (end_at ends start kind)) seen ≡ cond f (with_active row before) before) [
           | true ↦ λ t. elim (is_active row) as (λ a. is_active row ≡ a
-              → with_end later start kind (cond (a && true) (Some (end_in row)) (end_at ends start kind)) seen ≡ cond a (Seen.Held (end_in row)) (unless_own (end_in row) before)) [
+              → end_over later start kind (cond (a && true) (Some (end_in row)) (end_at ends start kind)) seen ≡ cond a (Seen.Held (end_in row)) (unless_own (end_in row) before)) [
                 | true ↦ λ active. own_end t active seen
                 | false ↦ λ idle. left_end t idle (end_at ends start kind) seen
               ] refl
-          | false ↦ λ f. ap (λ b. with_end later start kind (cond b (Some (end_in row)) (end_at ends start kind)) seen) (and-false (is_active row)) ∙ same_end f (end_at ends start kind) seen
+          | false ↦ λ f. ap (λ b. end_over later start kind (cond b (Some (end_in row)) (end_at ends start kind)) seen) (and-false (is_active row)) ∙ same_end f (end_at ends start kind) seen
         ] refl
 
   -- the cells through the maps with one more relationship are the cells with the relationship put
-  pub overlaid-put_relation : overlaid below records takers later newer standing ≡ put_relation (overlaid below records takers relations ends standing) row
-  overlaid-put_relation = λ i. record (overlaid below records takers relations ends standing) {
+  pub overlaid-put_relation : with_overlay below records takers later newer standing ≡ put_relation (with_overlay below records takers relations ends standing) row
+  overlaid-put_relation = λ i. record (with_overlay below records takers relations ends standing) {
     relation = λ start kind end. own_cell start kind end i;
     active = λ start kind. active_cell start kind i;
   }
 
 -- ---- exceptions
 
-module _ (below : Cells) (records : Records) (takers : Takers) (relations : Relations) (ends : Ends) (standing later : Standing) (own : List ℕ) (category : ExceptionCategory) (stands : Bool)
-    (by_code : (lei : List ℕ) (other : ExceptionCategory) → stands_at later lei other ≡ cond (bytes_eq own lei && is_same_category category other) (Some stands) (stands_at standing lei other)) where
-  fact_cell : (lei : List ℕ) (other : ExceptionCategory) → with_exception (stands_at later lei other) (below.exception lei other)
-      ≡ cond (bytes_eq own lei && is_same_category category other) (seen_fact stands) (with_exception (stands_at standing lei other) (below.exception lei other))
+module _ (below : Cells) (records : Records) (takers : Takers) (relations : Relations) (ends : ActiveEnds) (standing later : ExceptionsPut) (own : List ℕ) (category : ExceptionCategory) (stands : Bool)
+    (by_code : (lei : List ℕ) (other : ExceptionCategory) → exception_put_at later lei other ≡ cond (bytes_eq own lei && is_same_category category other) (Some stands) (exception_put_at standing lei other)) where
+  fact_cell : (lei : List ℕ) (other : ExceptionCategory) → exception_over (exception_put_at later lei other) (below.exception lei other)
+      ≡ cond (bytes_eq own lei && is_same_category category other) (seen_fact stands) (exception_over (exception_put_at standing lei other) (below.exception lei other))
   fact_cell lei other =
-      ap (λ s. with_exception s (below.exception lei other)) (by_code lei other)
-      ∙ elim (bytes_eq own lei && is_same_category category other) as (λ b. with_exception (cond b (Some stands) (stands_at standing lei other)) (below.exception lei other)
-      ≡ cond b (seen_fact stands) (with_exception (stands_at standing lei other) (below.exception lei other))) [ true ↦ refl | false ↦ refl ]
+      ap (λ s. exception_over s (below.exception lei other)) (by_code lei other)
+      ∙ elim (bytes_eq own lei && is_same_category category other) as (λ b. exception_over (cond b (Some stands) (exception_put_at standing lei other)) (below.exception lei other)
+      ≡ cond b (seen_fact stands) (exception_over (exception_put_at standing lei other) (below.exception lei other))) [ true ↦ refl | false ↦ refl ]
 
   -- the cells through the map with one more exception are the cells with the exception put or withdrawn
-  pub overlaid-put_exception : overlaid below records takers relations ends later ≡ put_exception (overlaid below records takers relations ends standing) own category stands
-  overlaid-put_exception = λ i. record (overlaid below records takers relations ends standing) { exception = λ lei other. fact_cell lei other i }
+  pub overlaid-put_exception : with_overlay below records takers relations ends later ≡ put_exception (with_overlay below records takers relations ends standing) own category stands
+  overlaid-put_exception = λ i. record (with_overlay below records takers relations ends standing) { exception = λ lei other. fact_cell lei other i }

@@ -31,7 +31,7 @@ use Rattle.register_judge.specs.declared.sitting.Sitting.{Sitting}
 use Rattle.register_judge.specs.Agreement.{IsAgreed, IsByReads, NotesMore}
 use Rattle.register_judge.specs.Judging.{Judgement, judge_item, judge_items, put_writes, records_added}
 use Rattle.register_judge.specs.Outcomes.{Judges, Shows}
-use Rattle.register_judge.specs.Overlays.{is_between, put_cells, put_exception, put_record, put_relation}
+use Rattle.register_judge.specs.Overlays.{is_between, put_exception, put_in_view, put_record, put_relation}
 use Rattle.register_judge.specs.Sittings.{is_at_limit, sitting_by}
 use Rattle.register_judge.specs.Taking.{take, writes_of}
 use Rattle.register_judge.proofs.ItemLemmas.{LessJudged, less-item}
@@ -76,7 +76,7 @@ less_put_exception a b lei category stands (CellKey.Exc own other) less =
 less_put_exception a b lei category stands (CellKey.Key authority id) less = less
 less_put_exception a b lei category stands (CellKey.Act start kind) less = less
 
-less_put : (a b : Cells) (write : RowKey × Option Item) (key : CellKey) → LessAt a b key → LessAt (put_cells a write) (put_cells b write) key
+less_put : (a b : Cells) (write : RowKey × Option Item) (key : CellKey) → LessAt a b key → LessAt (put_in_view a write) (put_in_view b write) key
 less_put a b (row_key, Some (Item.Record row)) key less = less_put_record a b row key less
 less_put a b (row_key, Some (Item.Relation row)) key less = less_put_relation a b row key less
 less_put a b (row_key, Some (Item.Exception item)) key less =
@@ -87,7 +87,7 @@ less_put a b (RowKey.Rel start kind end, None) key less = less
 
 less_puts : (writes : List (RowKey × Option Item)) (a b : Cells) (key : CellKey) → LessAt a b key → LessAt (put_writes writes a) (put_writes writes b) key
 less_puts [] a b key less = less
-less_puts (write ∷ writes) a b key less = less_puts writes (put_cells a write) (put_cells b write) key (less_put a b write key less)
+less_puts (write ∷ writes) a b key less = less_puts writes (put_in_view a write) (put_in_view b write) key (less_put a b write key less)
 
 -- ---- cells that are covered
 
@@ -146,7 +146,7 @@ IsSoFar noted view sitting count verdicts writes n left_items items =
 
 pub put_writes-append : (first second : List (RowKey × Option Item)) (cells : Cells) → put_writes (first ++ second) cells ≡ put_writes second (put_writes first cells)
 put_writes-append [] second cells = refl
-put_writes-append (write ∷ first) second cells = put_writes-append first second (put_cells cells write)
+put_writes-append (write ∷ first) second cells = put_writes-append first second (put_in_view cells write)
 
 none_read : (read : CellKey × CellSeen) → Contains [] read → ⊥
 none_read read at = search rules

@@ -18,17 +18,17 @@ use Rattle.lei_records.specs.declared.view.Seen.{Seen}
 use Rattle.lei_records.specs.Cells.{Cells, lei_in, successor_in, successors_in, rec_cell, is_live, akey, holds}
 use Rattle.lei_records.specs.Checks.{Finding, code_detail, fails_if, first_failing}
 use Rattle.lei_records.specs.Rows.{Row}
-use Rattle.lei_records.specs.Tables.{Table, record_key, put, put_write, put_all, row_at, record_of, record_count, holder_of, other_holder, seen, cells_of, row_key, IsKeyed, AuthorityKeysAreUnique, AreRelationsKeyed, HasActives, IsSound}
+use Rattle.lei_records.specs.Tables.{Table, record_key, put, put_write, put_all, row_at, record_of, record_count, holder_of, other_holder, seen, cells_of, row_key, IsKeyed, AuthorityKeysAreUnique, AreRelationsKeyed, HasActives, IsSoundTable}
 use Rattle.lei_records.proofs.OptionLemmas.{none_where}
 use Rattle.lei_records.proofs.PassLemmas.{all_pass, first_failing-append}
 use Rattle.authority_rules.specs.Taken.{taken, IsFree}
 use Rattle.authority_rules.proofs.HolderLemmas.{keys_total, some_apart, taken-cells}
-use Rattle.authority_rules.proofs.SoundLemmas.{IsSound-put_exception}
-use Rattle.authority_rules.proofs.PutLemmas.{record_of-put, holder_of-put, IsKeyed-put, AuthorityKeysAreUnique-put, IsSound-put, other_than}
+use Rattle.authority_rules.proofs.SoundLemmas.{IsSoundTable-put_exception}
+use Rattle.authority_rules.proofs.PutLemmas.{record_of-put, holder_of-put, IsKeyed-put, AuthorityKeysAreUnique-put, IsSoundTable-put, other_than}
 use Rattle.successor_rules.specs.declared.walks.Walked.{Walked}
 use Rattle.lei_records.specs.Walks.{successor_of, successors_of}
 use Rattle.lei_records.specs.Walks.{is_met, is_long}
-use Rattle.successor_rules.specs.Levels.{is_back, is_wide}
+use Rattle.successor_rules.specs.Levels.{has_wide_levels, is_back}
 use Rattle.successor_rules.specs.Successors.{spread}
 use Rattle.successor_rules.proofs.ViewLemmas.{spread-over_table}
 use Rattle.successor_rules.proofs.WalkLemmas.{walk-over_table}
@@ -37,7 +37,7 @@ use Rattle.relation_rules.specs.Checking.{check_walked, checked_of, on_seen, unl
 use Rattle.relation_rules.specs.Checks.{c37, other_end, exception_checks, relation_checks}
 use Rattle.relation_rules.proofs.ActiveLemmas.{HasActives-put, IsFitting}
 use Rattle.relation_rules.proofs.CheckLemmas.{chained, check_exception-cells, check_relation-cells, on_held, seen_other}
-use Rattle.relation_rules.proofs.PutLemmas.{AreRelationsKeyed-put, IsSound-put_relation, fitting}
+use Rattle.relation_rules.proofs.PutLemmas.{AreRelationsKeyed-put, IsSoundTable-put_relation, fitting}
 use Rattle.register_judge.specs.declared.judge.ItemOutcome.{ItemOutcome}
 use Rattle.register_judge.specs.declared.outcome.JudgeStop.{JudgeStop}
 use Rattle.register_judge.specs.declared.outcome.Outcome.{Outcome}
@@ -45,11 +45,11 @@ use Rattle.register_judge.specs.declared.outcome.Verdict.{Verdict}
 use Rattle.lei_records.specs.declared.rules.Rules.{Rules}
 use Rattle.register_judge.specs.declared.sitting.Sitting.{Sitting}
 use Rattle.register_judge.specs.Checks.{own_checks, held_checks, c16, c16_each, c19, first_checks, level_checks, successor_checks, earlier_checks, last_checks, record_checks}
-use Rattle.register_judge.specs.Judging.{acceptance, check_with_held, check_key, check_named, check_record, check_each, check_first, check_levels, check_successors, value_seen, key_cell, judge_late, judge_record, outcome_by, judge_item, put_writes, cells_after, count_after, records_added, Judgement, before, judge_items}
-use Rattle.register_judge.specs.Outcomes.{Judges, Takes}
+use Rattle.register_judge.specs.Judging.{acceptance, check_with_held, check_key, check_named, check_record, check_each, check_first, check_levels, check_successors, value_seen, key_cell, judge_late, judge_record, item_outcome_by, judge_item, put_writes, cells_after, count_after, records_added, Judgement, before, judge_items}
+use Rattle.register_judge.specs.Outcomes.{Judges, TakesItems}
 use Rattle.register_judge.specs.Overlays.{put_record}
 use Rattle.register_judge.specs.Sittings.{is_at_limit, over_table}
-use Rattle.register_judge.specs.Taking.{verdict_of, item_checks, verdict, written, writes_of, is_new_record, Taken, take, HasRow, HaveRows}
+use Rattle.register_judge.specs.Taking.{verdict_of, item_checks, verdict, item_after, writes_of, is_new_record, Taken, take, HasRow, HaveRows}
 use Rattle.register_judge.proofs.RelationLemmas.{cells-put_exception, cells-put_relation}
 
 -- ---- a record on a table, by the table's cells
@@ -134,7 +134,7 @@ levels_by_table table item (successor ∷ successors) keyed holders =
     let key = key_by_table table item keyed holders in
     each_by_table table all (check_walked 17 18 (spread (cells_of table) own all) (check_key (cells_of table) item))
     ∙ ((λ i. unless_failed (first_failing (c16_each table all ∷ [])) (check_walked 17 18 (spreads i) (key i)))
-    ∙ by_levels_in_turn (list_any (λ lei. is_none (record_of table lei)) all) (is_wide (successors_of table) own all) (is_back (successors_of table) own all) behind)
+    ∙ by_levels_in_turn (list_any (λ lei. is_none (record_of table lei)) all) (has_wide_levels (successors_of table) own all) (is_back (successors_of table) own all) behind)
 
 successors_by_table : (rules : Rules) (table : Table) (item : Row) → IsKeyed table → AuthorityKeysAreUnique table
     → check_successors rules (cells_of table) item
@@ -183,7 +183,7 @@ held_seen (Some x) = refl
 
 -- C20 is made for a record that passes the checks before it
 with_room : (earlier room : Option FailedCheck) (none : Bool)
-    → outcome_by (checked_of earlier) (record { verdict = verdict_of room; new = none })
+    → item_outcome_by (checked_of earlier) (record { verdict = verdict_of room; new = none })
     ≡ Ok (record { verdict = verdict_of (option_or earlier room); new = none && is_none earlier })
 with_room None room none = λ i. Ok (record { verdict = verdict_of room; new = sym (and-true none) i })
 with_room (Some check) room none = λ i. Ok (record { verdict = Verdict.Rejected check; new = sym (and-false none) i })
@@ -194,7 +194,7 @@ record_by_table table sitting limit count item keyed holders counted =
     let held = record_of table (lei_in item) in
     let earlier = earlier_checks table sitting item in
     let late = last_checks table (over_table sitting limit) item in
-    (λ i. outcome_by (record_by_cells table sitting item keyed holders i) (judge_late sitting item (held_seen held i) (at_limit table sitting limit count counted i)))
+    (λ i. item_outcome_by (record_by_cells table sitting item keyed holders i) (judge_late sitting item (held_seen held i) (at_limit table sitting limit count counted i)))
     ∙ (with_room (first_failing earlier) (first_failing late) (is_none held)
     ∙ (λ i. Ok (record {
       verdict = verdict_of (sym (first_failing-append earlier late) i);
@@ -204,7 +204,7 @@ record_by_table table sitting limit count item keyed holders counted =
 -- ---- a relationship and an exception on a table
 
 -- the first check that fails is the verdict
-by_checks : (failed : Option FailedCheck) → outcome_by (checked_of failed) acceptance ≡ Ok (record { verdict = verdict_of failed; new = false })
+by_checks : (failed : Option FailedCheck) → item_outcome_by (checked_of failed) acceptance ≡ Ok (record { verdict = verdict_of failed; new = false })
 by_checks None = refl
 by_checks (Some check) = refl
 
@@ -222,9 +222,9 @@ item_by_table table sitting limit count (Readied.Bad check) told counted = refl
 item_by_table table sitting limit count (Readied.Good (Item.Record item)) told counted =
     record_by_table table sitting limit count item told.keyed told.holders counted
 item_by_table table sitting limit count (Readied.Good (Item.Relation item)) told counted =
-    ap (λ checked. outcome_by checked acceptance) (check_relation-cells table sitting.issuer item told.actives) ∙ by_checks (first_failing (relation_checks table sitting.issuer item))
+    ap (λ checked. item_outcome_by checked acceptance) (check_relation-cells table sitting.issuer item told.actives) ∙ by_checks (first_failing (relation_checks table sitting.issuer item))
 item_by_table table sitting limit count (Readied.Good (Item.Exception item)) told counted =
-    ap (λ checked. outcome_by checked acceptance) (check_exception-cells table sitting.issuer item) ∙ by_checks (first_failing (exception_checks table sitting.issuer item))
+    ap (λ checked. item_outcome_by checked acceptance) (check_exception-cells table sitting.issuer item) ∙ by_checks (first_failing (exception_checks table sitting.issuer item))
 
 -- ---- the cells and the number of records after an item
 
@@ -333,7 +333,7 @@ after_relation table issuer row told passes =
     }
 
 after_exception : (table : Table) (row : Row) (withdraws : Bool) → CellsTell table
-    → After table ((row_key (Item.Exception (row, withdraws)), written (Item.Exception (row, withdraws))) ∷ []) 0
+    → After table ((row_key (Item.Exception (row, withdraws)), item_after (Item.Exception (row, withdraws))) ∷ []) 0
 after_exception table row true told = record {
   told = record { keyed = told.keyed; holders = told.holders; relations_keyed = told.relations_keyed; actives = told.actives };
   cells = cells-put_exception table row true;
@@ -387,10 +387,10 @@ told-taken table sitting limit count (item ∷ items) told counted =
       count_is = counted_after counted.base count (record_count table) added (record_count (put_all (writes_of given item) table)) counted.count_is next.count;
     }))
 
-pub cells-tell : (table : Table) → IsSound table → CellsTell table
+pub cells-tell : (table : Table) → IsSoundTable table → CellsTell table
 cells-tell table sound = record { keyed = sound.keyed; holders = sound.holders; relations_keyed = sound.relations_keyed; actives = sound.actives }
 
-pub judged-taken : (table : Table) (sitting : Sitting) (items : List Readied) → IsSound table
+pub judged-taken : (table : Table) (sitting : Sitting) (items : List Readied) → IsSoundTable table
     → judge_items (cells_of table) 0 sitting items ≡ Ok (shown (take table (over_table sitting (record_count table + sitting.limit)) items))
 judged-taken table sitting items sound =
     told-taken table sitting (record_count table + sitting.limit) 0 items (cells-tell table sound)
@@ -412,34 +412,34 @@ take-written table sitting (item ∷ items) =
     ∙ sym (put_all-append writes (take (put_all writes table) sitting items).writes table)
 
 -- an accepted item leaves a sound table sound
-accepted_sound : (table : Table) (sitting : Sitting) (item : Item) → IsSound table → HasRow item
-    → first_failing (item_checks table sitting item) ≡ None → IsSound (put table item)
-accepted_sound table sitting (Item.Record row) sound is_row passes = IsSound-put table row sound is_row (free_if_passes table sitting row passes)
-accepted_sound table sitting (Item.Relation row) sound is_row passes = IsSound-put_relation table row sound is_row (passed_37 table sitting.issuer row passes)
-accepted_sound table sitting (Item.Exception item) sound is_row passes = IsSound-put_exception table item.0 item.1 sound is_row
+accepted_sound : (table : Table) (sitting : Sitting) (item : Item) → IsSoundTable table → HasRow item
+    → first_failing (item_checks table sitting item) ≡ None → IsSoundTable (put table item)
+accepted_sound table sitting (Item.Record row) sound is_row passes = IsSoundTable-put table row sound is_row (free_if_passes table sitting row passes)
+accepted_sound table sitting (Item.Relation row) sound is_row passes = IsSoundTable-put_relation table row sound is_row (passed_37 table sitting.issuer row passes)
+accepted_sound table sitting (Item.Exception item) sound is_row passes = IsSoundTable-put_exception table item.0 item.1 sound is_row
 
 -- what an accepted item writes has the same effect as putting it
-pub put-written : (P : Table → Type 0) (table : Table) (item : Item) → P (put table item) → P (put_write table (row_key item, written item))
+pub put-written : (P : Table → Type 0) (table : Table) (item : Item) → P (put table item) → P (put_write table (row_key item, item_after item))
 put-written P table (Item.Record row) is = is
 put-written P table (Item.Relation row) is = is
 put-written P table (Item.Exception (row, true)) is = is
 put-written P table (Item.Exception (row, false)) is = is
 
-item_sound : (table : Table) (sitting : Sitting) (item : Item) (failed : Option FailedCheck) → IsSound table → HasRow item
+item_sound : (table : Table) (sitting : Sitting) (item : Item) (failed : Option FailedCheck) → IsSoundTable table → HasRow item
     → first_failing (item_checks table sitting item) ≡ failed
-    → IsSound (put_all (writes_of (verdict_of failed) (Readied.Good item)) table)
+    → IsSoundTable (put_all (writes_of (verdict_of failed) (Readied.Good item)) table)
 item_sound table sitting item (Some check) sound is_row is = sound
-item_sound table sitting item None sound is_row is = put-written IsSound table item (accepted_sound table sitting item sound is_row is)
+item_sound table sitting item None sound is_row is = put-written IsSoundTable table item (accepted_sound table sitting item sound is_row is)
 
 -- the table after the first of some items is sound
-pub next_sound : (table : Table) (sitting : Sitting) (item : Item) → IsSound table → HasRow item
-    → IsSound (put_all (writes_of (verdict table sitting (Readied.Good item)) (Readied.Good item)) table)
+pub next_sound : (table : Table) (sitting : Sitting) (item : Item) → IsSoundTable table → HasRow item
+    → IsSoundTable (put_all (writes_of (verdict table sitting (Readied.Good item)) (Readied.Good item)) table)
 next_sound table sitting item sound is_row =
     item_sound table sitting item (first_failing (item_checks table sitting item)) sound is_row refl
 
 -- the items leave a sound table sound
-pub take-sound : (table : Table) (sitting : Sitting) (items : List Readied) → IsSound table → HaveRows items
-    → IsSound (take table sitting items).table
+pub take-sound : (table : Table) (sitting : Sitting) (items : List Readied) → IsSoundTable table → HaveRows items
+    → IsSoundTable (take table sitting items).table
 take-sound table sitting [] sound rows = sound
 take-sound table sitting (Readied.Bad check ∷ items) sound rows = take-sound table sitting items sound rows
 take-sound table sitting (Readied.Good item ∷ items) sound rows =
@@ -447,7 +447,7 @@ take-sound table sitting (Readied.Good item ∷ items) sound rows =
     take-sound (put_all (writes_of given (Readied.Good item)) table) sitting items (next_sound table sitting item sound rows.0) rows.1
 
 -- the judgement over a table's cells is the result of taking the items, and no cell is lacking
-pub judges-takes : (result : Result Outcome JudgeStop) (judged : Result Judgement CellKey) (taken : Taken) → judged ≡ Ok (shown taken) → Judges result judged → Takes result taken
+pub judges-takes : (result : Result Outcome JudgeStop) (judged : Result Judgement CellKey) (taken : Taken) → judged ≡ Ok (shown taken) → Judges result judged → TakesItems result taken
 judges-takes (Ok outcome) judged taken is judges = let P : Result Judgement CellKey → Type 0 = λ r. Judges (Ok outcome) r in subst P is judges
 judges-takes (Err (JudgeStop.NeedCell key)) judged taken is stops = let clash : Ok (shown taken) ≡ Err key = sym is ∙ stops in cc
 judges-takes (Err JudgeStop.NoMemory) judged taken is stops = refl

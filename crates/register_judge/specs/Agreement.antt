@@ -5,7 +5,7 @@ use Rattle.lei_code.specs.Texts.{Lei}
 use Rattle.lei_records.specs.declared.item.Readied.{Readied}
 use Rattle.lei_records.specs.declared.view.CellKey.{CellKey}
 use Rattle.lei_records.specs.Cells.{Cells}
-use Rattle.lei_records.specs.Tables.{IsSound, Table, record_count}
+use Rattle.lei_records.specs.Tables.{IsSoundTable, Table, record_count}
 use Rattle.cell_reads.specs.Needs.{needs}
 use Rattle.cell_reads.specs.Notes.{NotesCells}
 use Rattle.cell_reads.specs.Reads.{Agrees, AnswersReads, Listed}
@@ -13,15 +13,15 @@ use Rattle.register_judge.specs.declared.outcome.Outcome.{Outcome}
 use Rattle.lei_records.specs.RuleNumbers.{newest}
 use Rattle.register_judge.specs.declared.sitting.Sitting.{Sitting}
 use Rattle.register_judge.specs.Judging.{Judgement, judge_items, put_writes}
-use Rattle.register_judge.specs.Outcomes.{Judges, Takes}
+use Rattle.register_judge.specs.Outcomes.{Judges, TakesItems}
 use Rattle.register_judge.specs.Sittings.{sitting_by}
 use Rattle.register_judge.specs.Taking.{take}
 
 -- The outcome is that of the items on each sound table that agrees with its reads and has room for this many more
 -- records.
 abbrev pub IsAgreed : Outcome → ℕ → ℤ → Lei → List Readied → Type 0
-IsAgreed outcome room today issuer items = (table : Table) → IsSound table → Agrees outcome.reads table
-    → Takes (Ok outcome) (take table (sitting_by newest (record_count table + room) today issuer) items)
+IsAgreed outcome room today issuer items = (table : Table) → IsSoundTable table → Agrees outcome.reads table
+    → TakesItems (Ok outcome) (take table (sitting_by newest (record_count table + room) today issuer) items)
 
 -- The view answers what the outcome lists as read, and each view that answers this gives the same outcome.
 pub record IsByReads (outcome : Outcome) (view : Cells) (sitting : Sitting) (items : List Readied) : Type 0 where

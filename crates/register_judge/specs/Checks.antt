@@ -18,7 +18,7 @@ use Rattle.lei_records.specs.Spelled.{is_absent}
 use Rattle.lei_records.specs.Tables.{Table, record_of, record_count, other_holder}
 use Rattle.lei_records.specs.Walks.{Next, is_long, is_met, successor_of, successors_of}
 use Rattle.successor_rules.specs.Chains.{Nexts}
-use Rattle.successor_rules.specs.Levels.{is_back, is_wide}
+use Rattle.successor_rules.specs.Levels.{has_wide_levels, is_back}
 use Rattle.status_rules.specs.declared.transitions.Party.{Party}
 use Rattle.status_rules.specs.Statuses.{entity_fits, renewal_fits, is_issued, is_retired, is_duplicate}
 use Rattle.status_rules.specs.Transitions.{party}
@@ -127,11 +127,11 @@ c16_each table successors = fails_if (list_any (λ lei. is_none (record_of table
 -- own is among them.
 abbrev pub c17_levels : Nexts → Row → List Lei → Finding
 c17_levels nexts item successors =
-    fails_if (not (is_wide nexts (lei_in item) successors) && is_back nexts (lei_in item) successors) 17 Detail.None
+    fails_if (not (has_wide_levels nexts (lei_in item) successors) && is_back nexts (lei_in item) successors) 17 Detail.None
 
 -- C18 fails if they have more than 200 such LEIs.
 abbrev pub c18_levels : Nexts → Row → List Lei → Finding
-c18_levels nexts item successors = fails_if (is_wide nexts (lei_in item) successors) 18 Detail.None
+c18_levels nexts item successors = fails_if (has_wide_levels nexts (lei_in item) successors) 18 Detail.None
 
 -- ---- the other records
 

@@ -19,7 +19,7 @@ use Rattle.register_judge.specs.declared.outcome.Verdict.{Verdict}
 use Rattle.lei_records.specs.declared.rules.Rules.{Rules}
 use Rattle.register_judge.specs.declared.sitting.Sitting.{Sitting}
 use Rattle.register_judge.specs.Checks.{own_checks, held_checks, c16, c19, late_checks}
-use Rattle.register_judge.specs.Overlays.{put_cells}
+use Rattle.register_judge.specs.Overlays.{put_in_view}
 use Rattle.register_judge.specs.Sittings.{is_at_limit}
 use Rattle.register_judge.specs.Taking.{verdict_of, writes_of}
 
@@ -100,10 +100,10 @@ judge_late sitting item held full = record
     { verdict = verdict_of (first_failing (late_checks sitting item held full)); new = is_none held }
 
 -- The outcome of an item, given the result of its checks. `passed` is its outcome if they pass.
-abbrev pub outcome_by : Checked → ItemOutcome → Result ItemOutcome CellKey
-outcome_by Checked.Passes passed = Ok passed
-outcome_by (Checked.Fails check) passed = Ok (rejection check)
-outcome_by (Checked.Missing key) passed = Err key
+abbrev pub item_outcome_by : Checked → ItemOutcome → Result ItemOutcome CellKey
+item_outcome_by Checked.Passes passed = Ok passed
+item_outcome_by (Checked.Fails check) passed = Ok (rejection check)
+item_outcome_by (Checked.Missing key) passed = Err key
 
 -- What a cell has, as far as the view knows.
 abbrev pub value_seen : {X : Type 0} → Seen X → Option X
@@ -114,7 +114,7 @@ value_seen Seen.Missing = None
 -- The outcome of a record. The checks from C20 on come last, with the record that is held under its LEI.
 abbrev pub judge_record : Cells → Bool → Sitting → Row → Result ItemOutcome CellKey
 judge_record cells full sitting item =
-    outcome_by (check_record cells sitting item)
+    item_outcome_by (check_record cells sitting item)
     (judge_late sitting item (value_seen (cells.record_cell (lei_in item))) full)
 
 -- The outcome of an item in a sitting. If `full` is true, no further record fits.
@@ -122,16 +122,16 @@ abbrev pub judge_item : Cells → Bool → Sitting → Readied → Result ItemOu
 judge_item cells full sitting (Readied.Bad check) = Ok (rejection check)
 judge_item cells full sitting (Readied.Good (Item.Record item)) = judge_record cells full sitting item
 judge_item cells full sitting (Readied.Good (Item.Relation item)) =
-    outcome_by (check_relation cells sitting.issuer item) acceptance
+    item_outcome_by (check_relation cells sitting.issuer item) acceptance
 judge_item cells full sitting (Readied.Good (Item.Exception item)) =
-    outcome_by (check_exception cells sitting.issuer item) acceptance
+    item_outcome_by (check_exception cells sitting.issuer item) acceptance
 
 -- ---- items from the first to the last
 
 -- The cells after these writes.
 abbrev pub put_writes : List (RowKey × Option Item) → Cells → Cells
 put_writes [] cells = cells
-put_writes (write ∷ writes) cells = put_writes writes (put_cells cells write)
+put_writes (write ∷ writes) cells = put_writes writes (put_in_view cells write)
 
 -- The cells after an item, given its outcome.
 abbrev pub cells_after : Result ItemOutcome CellKey → Readied → Cells → Cells

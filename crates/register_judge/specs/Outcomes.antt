@@ -19,8 +19,8 @@ pub record Shows (outcome : Outcome) (verdicts : List Verdict) (writes : List (R
   pub new_are : outcome.new_records ≡ new_records
 
 -- The outcome is the result of taking the items, or memory ran out.
-abbrev pub Takes : Result Outcome JudgeStop → Taken → Type 0
-Takes result taken = MatchResult result
+abbrev pub TakesItems : Result Outcome JudgeStop → Taken → Type 0
+TakesItems result taken = MatchResult result
     (λ outcome. Shows outcome taken.verdicts taken.writes taken.new_records)
     (λ stop. stop ≡ JudgeStop.NoMemory)
 

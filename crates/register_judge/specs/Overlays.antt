@@ -64,13 +64,13 @@ put_exception cells lei category stands = record cells {
 }
 
 -- The cells after a write. A record and a relationship are never withdrawn.
-abbrev pub put_cells : Cells → RowKey × Option Item → Cells
-put_cells cells (key, Some (Item.Record row)) = put_record cells row
-put_cells cells (key, Some (Item.Relation row)) = put_relation cells row
-put_cells cells (key, Some (Item.Exception item)) =
+abbrev pub put_in_view : Cells → RowKey × Option Item → Cells
+put_in_view cells (key, Some (Item.Record row)) = put_record cells row
+put_in_view cells (key, Some (Item.Relation row)) = put_relation cells row
+put_in_view cells (key, Some (Item.Exception item)) =
     put_exception cells (subject_in item.0) (exception_category_in item.0) (not item.1)
-put_cells cells (RowKey.Exc lei category, None) = put_exception cells lei category false
-put_cells cells (key, None) = cells
+put_in_view cells (RowKey.Exc lei category, None) = put_exception cells lei category false
+put_in_view cells (key, None) = cells
 
 -- ---- the records by two maps: the accepted record of an LEI, and the record that took a key last
 
@@ -103,9 +103,9 @@ abbrev pub taker_at : Takers → Text → Text → Option Lei
 taker_at takers authority id = option_and_then (λ ids. id_at ids id) (ids_at takers authority)
 
 -- If a record was put, it answers for its LEI.
-abbrev pub with_record : Option Row → Seen RecCell → Seen RecCell
-with_record None below = below
-with_record (Some row) below = Seen.Held (rec_cell row)
+abbrev pub record_over : Option Row → Seen RecCell → Seen RecCell
+record_over None below = below
+record_over (Some row) below = Seen.Held (rec_cell row)
 
 -- A record of the LEI was put.
 abbrev pub has_record : Records → Lei → Bool
@@ -148,17 +148,17 @@ pair_at pairs lei text =
     get_by (λ key. ordering_then (slice_cmp nat_cmp lei key.0) (slice_cmp nat_cmp text key.1.now)) pairs
 
 -- The end of a relationship, by start and text of the type.
-abbrev pub Ends : Type 0
-Ends = BTreeMap (Lei × Bor Text) Lei
+abbrev pub ActiveEnds : Type 0
+ActiveEnds = BTreeMap (Lei × Bor Text) Lei
 
 -- The end of the relationship of a start and a type that was last put as an active one.
-abbrev pub end_at : Ends → Lei → RelationType → Option Lei
+abbrev pub end_at : ActiveEnds → Lei → RelationType → Option Lei
 end_at ends start kind = pair_at ends start (relation_type_text kind)
 
 -- If a relationship was put, it answers for its key.
-abbrev pub with_relation : Option Row → Seen RelCell → Seen RelCell
-with_relation None below = below
-with_relation (Some row) below = Seen.Held (rel_cell row)
+abbrev pub relation_over : Option Row → Seen RelCell → Seen RelCell
+relation_over None below = below
+relation_over (Some row) below = Seen.Held (rel_cell row)
 
 -- There is a row, and it is that of an active relationship.
 abbrev pub is_active_row : Option Row → Bool
@@ -175,42 +175,42 @@ unless_relation_put relations start kind Seen.Missing = Seen.Missing
 
 -- The active relationship is the one that was last put as such, if its key still has an active one. If none was put as
 -- such, it is the one below, unless this was replaced.
-abbrev pub with_end : Relations → Lei → RelationType → Option Lei → Seen Lei → Seen Lei
-with_end relations start kind None below = unless_relation_put relations start kind below
-with_end relations start kind (Some end) below =
+abbrev pub end_over : Relations → Lei → RelationType → Option Lei → Seen Lei → Seen Lei
+end_over relations start kind None below = unless_relation_put relations start kind below
+end_over relations start kind (Some end) below =
     if is_active_row (relation_at relations start kind end) then Seen.Held end else Seen.Empty
 
 -- ---- the exceptions by a map
 
 -- Whether the exception is held, by LEI and text of the category.
-abbrev pub Standing : Type 0
-Standing = BTreeMap (Lei × Bor Text) Bool
+abbrev pub ExceptionsPut : Type 0
+ExceptionsPut = BTreeMap (Lei × Bor Text) Bool
 
 -- Whether the exception of an LEI and a category is held, if it was put or withdrawn.
-abbrev pub stands_at : Standing → Lei → ExceptionCategory → Option Bool
-stands_at standing lei category = pair_at standing lei (exception_category_text category)
+abbrev pub exception_put_at : ExceptionsPut → Lei → ExceptionCategory → Option Bool
+exception_put_at standing lei category = pair_at standing lei (exception_category_text category)
 
 -- If an exception was put or withdrawn, this answers for its key.
-abbrev pub with_exception : Option Bool → Seen ⊤ → Seen ⊤
-with_exception None below = below
-with_exception (Some stands) below = seen_fact stands
+abbrev pub exception_over : Option Bool → Seen ⊤ → Seen ⊤
+exception_over None below = below
+exception_over (Some stands) below = seen_fact stands
 
 -- ---- all of them
 
 -- The cells below, with the contents of the maps put over them.
-abbrev pub overlaid : Cells → Records → Takers → Relations → Ends → Standing → Cells
-overlaid below records takers relations ends standing = record {
-  record_cell = λ lei. with_record (record_at records lei) (below.record_cell lei);
+abbrev pub with_overlay : Cells → Records → Takers → Relations → ActiveEnds → ExceptionsPut → Cells
+with_overlay below records takers relations ends standing = record {
+  record_cell = λ lei. record_over (record_at records lei) (below.record_cell lei);
   holder = λ authority id. with_taker records authority id (taker_at takers authority id)
       (below.holder authority id);
-  relation = λ start kind end. with_relation (relation_at relations start kind end)
+  relation = λ start kind end. relation_over (relation_at relations start kind end)
       (below.relation start kind end);
-  active = λ start kind. with_end relations start kind (end_at ends start kind) (below.active start kind);
-  exception = λ lei category. with_exception (stands_at standing lei category) (below.exception lei category);
+  active = λ start kind. end_over relations start kind (end_at ends start kind) (below.active start kind);
+  exception = λ lei category. exception_over (exception_put_at standing lei category) (below.exception lei category);
 }
 
 -- The cells of a view with accepted items over it.
-abbrev pub cells_in : {V : Type 0} → (V → Cells) → Overlay V → Cells
-cells_in cells overlay =
-    overlaid (cells overlay.view.now) overlay.records overlay.takers overlay.relations overlay.ends
+abbrev pub overlay_view : {V : Type 0} → (V → Cells) → Overlay V → Cells
+overlay_view cells overlay =
+    with_overlay (cells overlay.view.now) overlay.records overlay.takers overlay.relations overlay.ends
     overlay.standing

@@ -5,7 +5,7 @@ use Rattle.lei_records.specs.declared.item.Readied.{Readied}
 use Rattle.lei_records.specs.declared.view.RowKey.{RowKey}
 use Rattle.lei_records.specs.Cells.{lei_in}
 use Rattle.lei_records.specs.Checks.{FailedCheck, Finding, first_failing}
-use Rattle.lei_records.specs.Spelled.{IsExceptionRow, IsRelationRow, IsRow}
+use Rattle.lei_records.specs.Spelled.{IsExceptionRow, IsRecordRow, IsRelationRow}
 use Rattle.lei_records.specs.Tables.{Table, record_of, put_all, row_key}
 use Rattle.relation_rules.specs.Checks.{relation_checks, exception_checks}
 use Rattle.register_judge.specs.declared.outcome.Verdict.{Verdict}
@@ -31,14 +31,14 @@ verdict table sitting (Readied.Bad check) = Verdict.Rejected check
 verdict table sitting (Readied.Good item) = verdict_of (first_failing (item_checks table sitting item))
 
 -- What is held under an item's key if it is accepted: the item, or nothing if it is a withdrawal.
-abbrev pub written : Item → Option Item
-written (Item.Record row) = Some (Item.Record row)
-written (Item.Relation row) = Some (Item.Relation row)
-written (Item.Exception item) = if item.1 then None else Some (Item.Exception item)
+abbrev pub item_after : Item → Option Item
+item_after (Item.Record row) = Some (Item.Record row)
+item_after (Item.Relation row) = Some (Item.Relation row)
+item_after (Item.Exception item) = if item.1 then None else Some (Item.Exception item)
 
 -- What an item with this verdict writes: that, under its key, if it is accepted, or else nothing.
 abbrev pub writes_of : Verdict → Readied → List (RowKey × Option Item)
-writes_of Verdict.Accepted (Readied.Good item) = (row_key item, written item) ∷ []
+writes_of Verdict.Accepted (Readied.Good item) = (row_key item, item_after item) ∷ []
 writes_of verdict item = []
 
 -- The item is a record that reaches C20 while no record with its LEI is held.
@@ -75,7 +75,7 @@ take table sitting (item ∷ items) =
 
 -- The row of an item is a row of its kind: of a record, a relationship or an exception.
 abbrev pub HasRow : Item → Type 0
-HasRow (Item.Record row) = IsRow row
+HasRow (Item.Record row) = IsRecordRow row
 HasRow (Item.Relation row) = IsRelationRow row
 HasRow (Item.Exception item) = IsExceptionRow item.0
 

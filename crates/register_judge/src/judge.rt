@@ -64,7 +64,7 @@ pub fn judge_item<V: View>(
 
 // The outcome of an item, given the result of its checks. `passed` is its outcome if they pass.
 fn outcome_by(checked: Checked, passed: ItemOutcome) -> Result<ItemOutcome, JudgeStop>
-    ensures { JudgesItem result (Judging.outcome_by checked passed) }
+    ensures { JudgesItem result (Judging.item_outcome_by checked passed) }
 {
     match checked {
         Checked::Passes => Ok(passed),

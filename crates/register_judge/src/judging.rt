@@ -1,6 +1,6 @@
 //! The verdicts on the items of an upload.
 ghost use Rattle.std.specs.Prelude.{◌≡◌, ◌<◌, ◌≤◌, ◌+◌, ◌∷◌, ◌++◌, ℕ, [], Err, IfOk, IfSome, IsSome, IsTrue, OnOk, length, if◌then◌else◌};
-ghost use Rattle.lei_records.specs.Tables.{Table, IsSound, cells_of, record_count, row_key};
+ghost use Rattle.lei_records.specs.Tables.{Table, IsSoundTable, cells_of, record_count, row_key};
 ghost use Rattle.lei_records.specs.declared.view.CellKey.{CellKey as Key};
 ghost use Rattle.relation_rules.specs.Needs.{lacks};
 ghost use Rattle.cell_reads.specs.Needs.{needs};
@@ -9,11 +9,11 @@ ghost use Rattle.register_judge.specs.Agreement.{IsAgreed, IsByReads, IsNeededIn
 ghost use Rattle.register_judge.specs.declared.outcome.JudgeStop.{JudgeStop as Stop};
 ghost use Rattle.lei_records.specs.RuleNumbers.{newest};
 ghost use Rattle.register_judge.specs.Judging;
-ghost use Rattle.register_judge.specs.Outcomes.{Judges, Shows, Takes};
-ghost use Rattle.register_judge.specs.Overlays.{cells_in};
+ghost use Rattle.register_judge.specs.Outcomes.{Judges, Shows, TakesItems};
+ghost use Rattle.register_judge.specs.Overlays.{overlay_view};
 ghost use Rattle.register_judge.specs.Sittings.{over_table, sitting_by};
 ghost use Rattle.register_judge.specs.Taking;
-ghost use Rattle.register_judge.specs.Taking.{take, writes_of, written};
+ghost use Rattle.register_judge.specs.Taking.{item_after, take, writes_of};
 
 use crate::judge::{ItemOutcome, judge_item};
 use crate::keys::row_key;
@@ -56,7 +56,8 @@ pub fn judge_all<V: View>(
         (Judging.judge_items (V.cells view.now) 0 (sitting_by newest room today issuer.now) items.now) }
 
     // Over the cells of a sound table that has room for this many more records.
-    ensures over_tables { (table : Table) → IsSound table → V.cells view.now ≡ cells_of table → Takes result
+    ensures over_tables { (table : Table) → IsSoundTable table → V.cells view.now ≡ cells_of table
+        → TakesItems result
         (take table (sitting_by newest (record_count table + room) today issuer.now) items.now) }
 
     // The view has in each cell that is listed as read what is listed for it.
@@ -88,7 +89,8 @@ pub fn judge_by<V: View>(
 ) -> Result<Outcome, JudgeStop>
     requires { length items.now ≤ 5000 }
     ensures answers { Judges result (Judging.judge_items (V.cells view.now) 0 sitting.now items.now) }
-    ensures over_tables { (table : Table) → IsSound table → V.cells view.now ≡ cells_of table → Takes result
+    ensures over_tables { (table : Table) → IsSoundTable table → V.cells view.now ≡ cells_of table
+        → TakesItems result
         (take table (over_table sitting.now (record_count table + sitting.now.limit)) items.now) }
 {
     judge_each(alloc, view, None, sitting, items)
@@ -153,7 +155,7 @@ fn note_item<'a, V: View>(
     item: &Readied,
 ) -> Result<(), NoMemory>
     ensures { OnOk result (NotesMore noted.old noted.new (V.cells view.now)
-        (needs rules (cells_in V.cells overlay.now) item.now)) }
+        (needs rules (overlay_view V.cells overlay.now) item.now)) }
 {
     match noted {
         Some(noted) => note_needs(alloc, rules, view, overlay, noted, item),
@@ -169,8 +171,8 @@ fn write_item<'a, V: View>(
     verdict: &Verdict,
     item: &'a Readied,
 ) -> Result<(), NoMemory>
-    ensures cells { OnOk result (cells_in V.cells overlay.new
-        ≡ Judging.put_writes (writes_of verdict.now item.now) (cells_in V.cells overlay.old)) }
+    ensures cells { OnOk result (overlay_view V.cells overlay.new
+        ≡ Judging.put_writes (writes_of verdict.now item.now) (overlay_view V.cells overlay.old)) }
     ensures writes { OnOk result (writes.new.items ≡ writes.old.items ++ writes_of verdict.now item.now) }
 {
     match (verdict, item) {
@@ -185,19 +187,20 @@ fn accept<'a, V: View>(
     writes: &mut Vec<(RowKey, Option<Item>)>,
     item: &'a Item,
 ) -> Result<(), NoMemory>
-    ensures cells { OnOk result (cells_in V.cells overlay.new
-        ≡ Judging.put_writes ((row_key item.now, written item.now) ∷ []) (cells_in V.cells overlay.old)) }
+    ensures cells { OnOk result (overlay_view V.cells overlay.new
+        ≡ Judging.put_writes ((row_key item.now, item_after item.now) ∷ [])
+        (overlay_view V.cells overlay.old)) }
     ensures writes { OnOk result
-        (writes.new.items ≡ writes.old.items ++ (row_key item.now, written item.now) ∷ []) }
+        (writes.new.items ≡ writes.old.items ++ (row_key item.now, item_after item.now) ∷ []) }
 {
     overlay.put(alloc, item)?;
-    writes.push((row_key(item), written(item)?))?;
+    writes.push((row_key(item), item_after(item)?))?;
     Ok(())
 }
 
 // What is held under the key of an accepted item: the item, or nothing if it is a withdrawal.
-fn written(item: &Item) -> Result<Option<Item>, NoMemory>
-    ensures { IfOk result (λ held. held ≡ Taking.written item.now) }
+fn item_after(item: &Item) -> Result<Option<Item>, NoMemory>
+    ensures { IfOk result (λ held. held ≡ Taking.item_after item.now) }
 {
     match item {
         Item::Exception(exception) if exception.withdraws() => Ok(None),

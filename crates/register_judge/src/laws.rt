@@ -5,8 +5,8 @@ ghost use Rattle.lei_records.specs.declared.item.Item.{Item};
 ghost use Rattle.lei_records.specs.declared.item.Readied.{Readied};
 ghost use Rattle.lei_records.specs.Checks.{first_failing};
 ghost use Rattle.lei_records.specs.Rows.{Row};
-ghost use Rattle.lei_records.specs.Tables.{Table, IsSound, put, put_all, record_count};
-ghost use Rattle.relation_rules.specs.Parents.{AreApart, ParentChainsEnd};
+ghost use Rattle.lei_records.specs.Tables.{Table, IsSoundTable, put, put_all, record_count};
+ghost use Rattle.relation_rules.specs.Parents.{ExceptionsExcludeParents, ParentChainsEnd};
 ghost use Rattle.cell_reads.specs.Reads.{Agrees};
 ghost use Rattle.register_judge.specs.declared.outcome.Outcome.{Outcome};
 ghost use Rattle.lei_records.specs.RuleNumbers.{newest};
@@ -14,7 +14,7 @@ ghost use Rattle.lei_records.specs.declared.rules.Rules.{Rules};
 ghost use Rattle.register_judge.specs.declared.sitting.Sitting.{Sitting};
 ghost use Rattle.register_judge.specs.Agreement.{IsAgreed};
 ghost use Rattle.register_judge.specs.Checks.{successor_checks};
-ghost use Rattle.register_judge.specs.Outcomes.{Takes};
+ghost use Rattle.register_judge.specs.Outcomes.{TakesItems};
 ghost use Rattle.register_judge.specs.Sittings.{sitting_by};
 ghost use Rattle.register_judge.specs.Taking.{take, HaveRows};
 ghost use Rattle.register_judge.specs.Fitting.{EachRecord, EachRecordOf, ItemsFit, RowFits, TableFits};
@@ -23,7 +23,7 @@ ghost use Rattle.successor_rules.specs.Successors.{SuccessorChainsEnd};
 /// Items whose rows are rows of their kinds leave a sound table sound.
 pub fn items_keep_tables_sound()
     ensures { (table : Table) (sitting : Sitting) (items : List Readied)
-        → IsSound table → HaveRows items → IsSound (take table sitting items).table }
+        → IsSoundTable table → HaveRows items → IsSoundTable (take table sitting items).table }
 {}
 
 /// The table after items is the one before them, with the writes of the accepted ones put in order.
@@ -66,7 +66,7 @@ pub fn items_keep_what_each_record_has()
 /// If each chain of direct parents of a sound table ends, it still does after items whose rows are rows of their kinds.
 pub fn items_keep_parents()
     ensures { (table : Table) (sitting : Sitting) (items : List Readied)
-        → IsSound table → ParentChainsEnd table → HaveRows items
+        → IsSoundTable table → ParentChainsEnd table → HaveRows items
         → ParentChainsEnd (take table sitting items).table }
 {}
 
@@ -74,7 +74,8 @@ pub fn items_keep_parents()
 /// after items whose rows are rows of their kinds.
 pub fn items_keep_apart()
     ensures { (table : Table) (sitting : Sitting) (items : List Readied)
-        → IsSound table → AreApart table → HaveRows items → AreApart (take table sitting items).table }
+        → IsSoundTable table → ExceptionsExcludeParents table → HaveRows items
+        → ExceptionsExcludeParents (take table sitting items).table }
 {}
 
 /// Two limits give the same result on a sound table if its records and the new ones together exceed neither. So an
@@ -82,12 +83,12 @@ pub fn items_keep_apart()
 /// agrees with its reads. This holds under each limit up to that number that these records don't exceed.
 pub fn limits_that_suffice_are_alike()
     ensures taken { (rules : Rules) (today : ℤ) (issuer : Lei) (table : Table) (small big : ℕ)
-        (items : List Readied) → IsSound table → small ≤ big
+        (items : List Readied) → IsSoundTable table → small ≤ big
         → record_count table + (take table (sitting_by rules big today issuer) items).new_records ≤ small
         → take table (sitting_by rules small today issuer) items
         ≡ take table (sitting_by rules big today issuer) items }
     ensures agreed { (outcome : Outcome) (limit : ℕ) (today : ℤ) (issuer : Lei) (items : List Readied)
-        (table : Table) → IsAgreed outcome 4294967295 today issuer items → IsSound table
+        (table : Table) → IsAgreed outcome 4294967295 today issuer items → IsSoundTable table
         → Agrees outcome.reads table → record_count table + outcome.new_records ≤ limit → limit ≤ 4294967295
-        → Takes (Ok outcome) (take table (sitting_by newest limit today issuer) items) }
+        → TakesItems (Ok outcome) (take table (sitting_by newest limit today issuer) items) }
 {}

@@ -12,8 +12,8 @@ ghost use Rattle.lei_records.specs.Relations as Spelled;
 ghost use Rattle.lei_records.specs.Tables.{row_key};
 ghost use Rattle.relation_rules.specs.Checks.{is_from};
 ghost use Rattle.register_judge.specs.Overlays;
-ghost use Rattle.register_judge.specs.Overlays.{cells_in};
-ghost use Rattle.register_judge.specs.Taking.{written};
+ghost use Rattle.register_judge.specs.Overlays.{overlay_view};
+ghost use Rattle.register_judge.specs.Taking.{item_after};
 
 use authority_rules::{holds, is_live, key_of};
 use lei_code::Lei;
@@ -55,10 +55,10 @@ pub struct Overlay<'a, V> {
 }
 
 impl<'a, V: View> View for Overlay<'a, V> {
-    ghost cells = { cells_in V.cells };
+    ghost cells = { overlay_view V.cells };
 
     fn record_cell(&self, lei: &Lei) -> Seen<RecCell> {
-        match self.accepted(lei) {
+        match self.accepted_record(lei) {
             Some(item) => Seen::Held(item.cell()),
             None => self.view.record_cell(lei),
         }
@@ -86,7 +86,7 @@ impl<'a, V: View> View for Overlay<'a, V> {
     }
 
     fn exception(&self, lei: &Lei, category: ExceptionCategory) -> Seen<()> {
-        match self.stands(lei, category) {
+        match self.exception_put(lei, category) {
             Some(true) => Seen::Held(()),
             Some(false) => Seen::Empty,
             None => self.view.exception(lei, category),
@@ -97,7 +97,7 @@ impl<'a, V: View> View for Overlay<'a, V> {
 impl<'a, V: View> Overlay<'a, V> {
     /// The view with nothing over it.
     pub fn new(alloc: Global, view: &'a V) -> Self
-        ensures { cells_in V.cells result ≡ V.cells view.now }
+        ensures { overlay_view V.cells result ≡ V.cells view.now }
     {
         Overlay {
             view,
@@ -111,8 +111,8 @@ impl<'a, V: View> Overlay<'a, V> {
 
     /// Puts an item over what is there. A withdrawal leaves no exception under its key.
     pub fn put(&mut self, alloc: Global, item: &'a Item) -> Result<(), NoMemory>
-        ensures { OnOk result (cells_in V.cells self.new
-            ≡ Overlays.put_cells (cells_in V.cells self.old) (row_key item.now, written item.now)) }
+        ensures { OnOk result (overlay_view V.cells self.new
+            ≡ Overlays.put_in_view (overlay_view V.cells self.old) (row_key item.now, item_after item.now)) }
     {
         match item {
             Item::Record(item) => self.put_record(alloc, item),
@@ -122,29 +122,30 @@ impl<'a, V: View> Overlay<'a, V> {
     }
 
     fn put_record(&mut self, alloc: Global, item: &'a Record) -> Result<(), NoMemory>
-        ensures { OnOk result (cells_in V.cells self.new
-            ≡ Overlays.put_record (cells_in V.cells self.old) item.now) }
+        ensures { OnOk result (overlay_view V.cells self.new
+            ≡ Overlays.put_record (overlay_view V.cells self.old) item.now) }
     {
         put_taker(alloc, &mut self.takers, item)?;
         insert_record(&mut self.records, item)
     }
 
     fn put_relation(&mut self, item: &'a Relation) -> Result<(), NoMemory>
-        ensures { OnOk result (cells_in V.cells self.new
-            ≡ Overlays.put_relation (cells_in V.cells self.old) item.now) }
+        ensures { OnOk result (overlay_view V.cells self.new
+            ≡ Overlays.put_relation (overlay_view V.cells self.old) item.now) }
     {
         put_end(&mut self.ends, item)?;
         insert_relation(&mut self.relations, item)
     }
 
     fn put_exception(&mut self, item: &ExceptionItem) -> Result<(), NoMemory>
-        ensures { OnOk result (cells_in V.cells self.new ≡ Overlays.put_exception (cells_in V.cells self.old)
+        ensures { OnOk result (overlay_view V.cells self.new
+            ≡ Overlays.put_exception (overlay_view V.cells self.old)
             (subject_in item.now.0) (exception_category_in item.now.0) (not item.now.1)) }
     {
-        insert_standing(&mut self.standing, item)
+        insert_exception(&mut self.standing, item)
     }
 
-    fn accepted(&self, lei: &Lei) -> Option<&'a Record>
+    fn accepted_record(&self, lei: &Lei) -> Option<&'a Record>
         ensures { option_copied result ≡ Overlays.record_at self.now.records lei.now }
     {
         self.records.get(lei).copied()
@@ -163,7 +164,7 @@ impl<'a, V: View> Overlay<'a, V> {
             (Overlays.record_at self.now.records lei)
             then Seen.Held lei else Seen.Empty) }
     {
-        match self.accepted(&lei) {
+        match self.accepted_record(&lei) {
             Some(item) if holds(item, authority, id) => Seen::Held(lei),
             _ => Seen::Empty,
         }
@@ -174,7 +175,7 @@ impl<'a, V: View> Overlay<'a, V> {
         ensures { result ≡ Overlays.unless_replaced self.now.records holder }
     {
         match holder {
-            Seen::Held(lei) if self.accepted(&lei).is_some() => Seen::Empty,
+            Seen::Held(lei) if self.accepted_record(&lei).is_some() => Seen::Empty,
             holder => holder,
         }
     }
@@ -191,8 +192,8 @@ impl<'a, V: View> Overlay<'a, V> {
         self.ends.get(&(*start, kind.text())).copied()
     }
 
-    fn stands(&self, lei: &Lei, category: ExceptionCategory) -> Option<bool>
-        ensures { result ≡ Overlays.stands_at self.now.standing lei.now category }
+    fn exception_put(&self, lei: &Lei, category: ExceptionCategory) -> Option<bool>
+        ensures { result ≡ Overlays.exception_put_at self.now.standing lei.now category }
     {
         self.standing.get(&(*lei, category.text())).copied()
     }
@@ -325,12 +326,12 @@ fn insert_relation<'a>(relations: &mut Relations<'a>, item: &'a Relation) -> Res
 }
 
 // Notes whether the exception is held after this item.
-fn insert_standing(standing: &mut Standing, item: &ExceptionItem) -> Result<(), NoMemory>
+fn insert_exception(standing: &mut Standing, item: &ExceptionItem) -> Result<(), NoMemory>
     ensures { OnOk result ((lei : List ℕ) (category : ExceptionCategory)
-        → Overlays.stands_at standing.new lei category
+        → Overlays.exception_put_at standing.new lei category
         ≡ (if bytes_eq (subject_in item.now.0) lei && is_same_category
         (exception_category_in item.now.0) category
-        then Some (not item.now.1) else Overlays.stands_at standing.old lei category)) }
+        then Some (not item.now.1) else Overlays.exception_put_at standing.old lei category)) }
 {
     match standing.insert((item.lei(), item.category().text()), !item.withdraws()) {
         Ok(_) => Ok(()),

@@ -15,7 +15,7 @@ use lei_records::numbers::{
     AUTHORITY_KEY_TAKEN, SUCCESSOR_CHAIN_LONG, SUCCESSOR_CYCLE, SUCCESSOR_UNKNOWN,
 };
 use lei_records::{CellKey, RecCell, Record, Rules, Seen, Successors, View};
-use relation_rules::{Checked, failed, telling};
+use relation_rules::{Checked, check_failure, telling};
 use std::alloc::Global;
 use successor_rules::{Walked, spread, walk};
 
@@ -73,7 +73,7 @@ fn first_unheld<V: View>(view: &V, leis: &[Lei]) -> Option<Checked>
     for lei in leis {
         match view.record_cell(lei) {
             Seen::Held(_) => {}
-            Seen::Empty => return Some(failed(SUCCESSOR_UNKNOWN)),
+            Seen::Empty => return Some(check_failure(SUCCESSOR_UNKNOWN)),
             Seen::Missing => return Some(Checked::Missing(CellKey::Rec(*lei))),
         }
     }
@@ -105,8 +105,8 @@ fn by_walk<V: View>(
         ≡ Checking.check_walked 17 18 walked (Judging.check_key (V.cells view.now) item.now)) }
 {
     match walked {
-        Walked::Meets => Ok(failed(SUCCESSOR_CYCLE)),
-        Walked::Long => Ok(failed(SUCCESSOR_CHAIN_LONG)),
+        Walked::Meets => Ok(check_failure(SUCCESSOR_CYCLE)),
+        Walked::Long => Ok(check_failure(SUCCESSOR_CHAIN_LONG)),
         Walked::Ends => check_key(alloc, view, item),
         Walked::Missing(key) => Ok(Checked::Missing(key)),
     }
@@ -124,7 +124,7 @@ fn check_successor<V: View>(
 {
     match view.record_cell(successor) {
         Seen::Held(_) => check_walk(alloc, view, item, successor),
-        Seen::Empty => Ok(failed(SUCCESSOR_UNKNOWN)),
+        Seen::Empty => Ok(check_failure(SUCCESSOR_UNKNOWN)),
         Seen::Missing => Ok(Checked::Missing(CellKey::Rec(*successor))),
     }
 }

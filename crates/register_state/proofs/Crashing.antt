@@ -11,11 +11,11 @@ use Rattle.register_history.specs.Touching.{AreTouchedCells, Touches}
 use Rattle.register_history.proofs.KeptLemmas.{told-with}
 use Rattle.register_table.specs.Held.{Held}
 use Rattle.upload_ledger.specs.History.{History}
-use Rattle.register_state.specs.Books.{with_entry}
+use Rattle.register_state.specs.Books.{office_with_entry}
 use Rattle.register_state.specs.Crashes.{CrashStays, IsLeftOf, LeavesAlso}
 
 -- the keeper tells the tables of the office with the entry
-pub crash-added : (old new : OfficeState) (e : KeptEntry) (told : Option KeptTables) (before after : Option KeptTables → Type 0) → new ≡ with_entry old e → Keeps told new → LeavesTold told after
+pub crash-added : (old new : OfficeState) (e : KeptEntry) (told : Option KeptTables) (before after : Option KeptTables → Type 0) → new ≡ office_with_entry old e → Keeps told new → LeavesTold told after
     → CrashStays old new told before after
 crash-added old new e told before after added keeps leaves only (inl same) =
     let one = ap (λ o. length o.history) (sym same) in
@@ -26,12 +26,12 @@ crash-added old new e (Some tables) before after added keeps leaves only (inr so
     subst (IsLeftOf new) (sym (leaves left is)) (inl keeps)
 
 -- nothing was added, but a crash may leave the entry
-pub crash-refused : (old new : OfficeState) (e : KeptEntry) (told : Option KeptTables) (before after : Option KeptTables → Type 0) → new ≡ old → Legal (with_entry old e)
-    → LeavesAlso (AreTablesOf (with_entry old e)) before after → CrashStays old new told before after
+pub crash-refused : (old new : OfficeState) (e : KeptEntry) (told : Option KeptTables) (before after : Option KeptTables → Type 0) → new ≡ old → Legal (office_with_entry old e)
+    → LeavesAlso (AreTablesOf (office_with_entry old e)) before after → CrashStays old new told before after
 crash-refused old new e told before after same legal leaves only any = λ left is.
     subst (λ o. IsLeftOf o left) (sym same) (by_left left (leaves left is))
   where
-    by_left : (left : Option KeptTables) → before left ⊎ ((tables : KeptTables) × (left ≡ Some tables) × AreTablesOf (with_entry old e) tables) → IsLeftOf old left
+    by_left : (left : Option KeptTables) → before left ⊎ ((tables : KeptTables) × (left ≡ Some tables) × AreTablesOf (office_with_entry old e) tables) → IsLeftOf old left
     by_left left (inl earlier) = only left earlier
     by_left left (inr with) = subst (IsLeftOf old) (sym with.1) (inr (e, legal, with.2))
 

@@ -7,7 +7,7 @@ use Rattle.lei_records.specs.Rows.{Row}
 use Rattle.lei_records.specs.Tables.{row_at}
 use Rattle.lei_records.specs.declared.item.RawItem.{RawItem}
 use Rattle.lei_outside.specs.declared.entry.KeptEntry.{KeptEntry}
-use Rattle.register_state.specs.Books.{writes_of}
+use Rattle.register_state.specs.Books.{office_writes}
 use Rattle.register_state.specs.Deciding.{AddsNext, Decides, FitsNext}
 use Rattle.register_state.specs.declared.decision.Decision.{Decision}
 use Rattle.register_state.specs.declared.decision.Decision.TheVariants.{Adds, Stays}
@@ -15,7 +15,7 @@ use Rattle.register_words.specs.declared.sheets.Form.{Form}
 use Rattle.register_words.specs.declared.sheets.Sheet.{Sheet}
 use Rattle.copy_forms.specs.Trails.{Publication, Trail}
 use Rattle.golden_shelf.specs.declared.fault.ShelfFault.{ShelfFault}
-use Rattle.golden_shelf.specs.Bases.{base_in, moments_of}
+use Rattle.golden_shelf.specs.Bases.{base_in, trail_moments}
 use Rattle.golden_shelf.specs.Shelves.{latest}
 use Rattle.register_table.specs.Undos.{WriteList}
 use Rattle.upload_ledger.specs.History.{accredited, ahead, fresh, kept, number_taken, Place, place, published, repeat_of, unknown_issuer}
@@ -29,7 +29,7 @@ use Rattle.register_words.specs.declared.request.Request.{Request}
 use Rattle.register_words.specs.declared.request.Request.TheVariants.{Accredit, Copy, Delta, Kept, Publish, Show, Status, Upload}
 use Rattle.register_history.specs.Publications.{trail}
 use Rattle.register_history.specs.Register.{after}
-use Rattle.register_history.specs.Replies.{Outcome, accredit_outcome, accreditation, adds, answer_outcome, body_outcome, changed, copied, is_full, is_too_much, next_publication, outcome_at, place_outcome, publication_entry, publish_outcome, show_outcome, stays, taken_upload, upload_outcome}
+use Rattle.register_history.specs.Replies.{Outcome, accredit_outcome, accreditation, adds, answer_outcome, body_outcome, copy_of_latest, delta_to_latest, is_full, is_too_much, next_publication, outcome_at, place_outcome, publication_entry, publish_outcome, show_outcome, stays, taken_upload, upload_outcome}
 use Rattle.register_history.specs.State.{OfficeState}
 use Rattle.register_history.specs.declared.terms.EntryTerms.{EntryTerms}
 
@@ -43,7 +43,7 @@ pub adds_is : (office : OfficeState) (request : Request) (outcome : Outcome) (de
 adds_is office request outcome decision entry list is decides = (let D : Decision → Type 0 = λ d. Decides office request outcome (Ok d) in (subst D is decides).0)
 
 pub adds_of : (office : OfficeState) (request : Request) (outcome : Outcome) (decision : Decision) (entry : KeptEntry) (list : WriteList) → decision ≡ Adds entry list
-    → Decides office request outcome (Ok decision) → list ≡ writes_of office entry
+    → Decides office request outcome (Ok decision) → list ≡ office_writes office entry
 adds_of office request outcome decision entry list is decides = (let D : Decision → Type 0 = λ d. Decides office request outcome (Ok d) in (subst D is decides).1)
 
 pub next_of : (office : OfficeState) (request : Request) (decision : Decision) (entry : KeptEntry) (list : WriteList) → decision ≡ Adds entry list → AddsNext office request (Ok decision)
@@ -102,11 +102,11 @@ publish-none office number terms None = by_tests (number == next_publication off
     by_tests false full = λ is. cc
 publish-none office number terms (Some text) = λ is. cc
 
-copy-none : (sheet : Sheet) (form : Form) (number : ℕ) (found : Option Publication) → IsNoFault (copied sheet form number found)
+copy-none : (sheet : Sheet) (form : Form) (number : ℕ) (found : Option Publication) → IsNoFault (copy_of_latest sheet form number found)
 copy-none sheet form number None = λ is. cc
 copy-none sheet form number (Some publication) = λ is. cc
 
-delta-none : (sheet : Sheet) (form : Form) (made : Trail) (found : Result ℕ ShelfFault) (last : Option Publication) → IsNoFault (changed sheet form made found last)
+delta-none : (sheet : Sheet) (form : Form) (made : Trail) (found : Result ℕ ShelfFault) (last : Option Publication) → IsNoFault (delta_to_latest sheet form made found last)
 delta-none sheet form made (Err ShelfFault.NothingPublished) last = λ is. cc
 delta-none sheet form made (Err ShelfFault.PublicationUnknown) last = λ is. cc
 delta-none sheet form made (Err ShelfFault.NoBase) last = λ is. cc
@@ -121,7 +121,7 @@ outcome-none office (Kept issuer number) terms = kept-none (is_some (accredited 
 outcome-none office (Show lei) terms = show-none (row_at (after office.limits office.history) lei)
 outcome-none office (Publish number) terms = publish-none office number terms (published office.history number)
 outcome-none office (Copy sheet form) terms = copy-none sheet form (length (trail office)) (latest (trail office))
-outcome-none office (Delta base sheet form) terms = delta-none sheet form (trail office) (base_in (moments_of (trail office)) base) (latest (trail office))
+outcome-none office (Delta base sheet form) terms = delta-none sheet form (trail office) (base_in (trail_moments (trail office)) base) (latest (trail office))
 outcome-none office Status terms = λ is. cc
 
 pub never_fault : (office : OfficeState) (request : Request) (terms : EntryTerms) (reply : Reply) → outcome_at office request terms ≡ stays reply → reply ≡ Words KeeperFault → ⊥

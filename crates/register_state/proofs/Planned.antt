@@ -4,11 +4,11 @@ use Rattle.std.proofs.lemmas.List.{length-map}
 use Rattle.cell_reads.specs.Reads.{Agrees}
 use Rattle.lei_outside.specs.declared.entry.KeptEntry.{KeptEntry}
 use Rattle.lei_records.specs.Items.{ready}
-use Rattle.lei_records.specs.Tables.{IsSound, Table, record_count}
+use Rattle.lei_records.specs.Tables.{IsSoundTable, Table, record_count}
 use Rattle.lei_records.specs.declared.item.RawItem.{RawItem}
 use Rattle.lei_records.specs.declared.item.Readied.{Readied}
 use Rattle.lei_shapes.specs.Moment.{day_of}
-use Rattle.register_history.specs.Register.{after, items_in}
+use Rattle.register_history.specs.Register.{after, readied_items}
 use Rattle.register_history.specs.Replies.{adds, body_outcome, is_full, is_too_much, newest_rules, stays, taken_upload, upload_entry}
 use Rattle.register_history.specs.State.{OfficeState}
 use Rattle.register_judge.specs.Agreement.{IsAgreed}
@@ -19,7 +19,7 @@ use Rattle.register_judge.specs.declared.outcome.Plan.{Plan}
 use Rattle.register_judge.specs.declared.sitting.Sitting.{Sitting}
 use Rattle.register_judge.proofs.LimitLemmas.{plan-taken}
 use Rattle.register_history.proofs.Registers.{upload-within}
-use Rattle.register_state.specs.Books.{writes_of}
+use Rattle.register_state.specs.Books.{office_writes}
 use Rattle.register_state.specs.Deciding.{Decides}
 use Rattle.register_state.specs.Judging.{ShowsTaken}
 use Rattle.register_state.specs.Planning.{AreItemsOf, IsPlanOf, IsTakenBy}
@@ -57,7 +57,7 @@ judged_by office call terms outcome raws sitting items table reads same held is 
 
 -- items that were judged ahead of their turn, by the newest rules
 pub planned_by : (office : OfficeState) (call : Call) (terms : EntryTerms) (plan : Plan) → IsPlanOf call plan → terms.rules ≡ newest_rules → plan.today ≡ day_of terms.moment
-    → IsSound (after office.limits office.history) → Agrees plan.outcome.reads (after office.limits office.history)
+    → IsSoundTable (after office.limits office.history) → Agrees plan.outcome.reads (after office.limits office.history)
     → record_count (after office.limits office.history) + plan.outcome.new_records ≤ office.limits.records
     → office.limits.records ≤ 4294967295 → IsTakenBy office call terms plan.outcome
 planned_by office call terms plan is by_newest today sound agrees fits less =
@@ -87,9 +87,9 @@ judged_decides office call terms outcome entry list is not_full not_much made wr
     let B : Result (List RawItem) Malformed → Type 0 = λ read. Decides office (Upload call) (body_outcome office call terms read) (Ok (Adds entry list)) in
     let C : Bool → Type 0 = λ full. Decides office (Upload call) (cond full (stays (Words LedgerFull)) (adds whole)) (Ok (Adds entry list)) in
     let same : whole ≡ entry = sym (made ∙ ap (λ vs. upload_entry office.history call terms vs) is.taken.verdicts) in
-    let W : Result (List RawItem) Malformed → Type 0 = λ read. taken.writes ≡ (take (after office.limits office.history) sitting (items_in rules read)).writes in
-    let written : taken.writes ≡ writes_of office whole = subst W (sym is.reads) refl in
+    let W : Result (List RawItem) Malformed → Type 0 = λ read. taken.writes ≡ (take (after office.limits office.history) sitting (readied_items rules read)).writes in
+    let written : taken.writes ≡ office_writes office whole = subst W (sym is.reads) refl in
     subst B (sym is.reads) (subst C (sym (none_of (is_full office) (is_too_much office call.body) not_full not_much)) (
       ap adds same,
-      wrote ∙ is.taken.writes ∙ written ∙ ap (writes_of office) same,
+      wrote ∙ is.taken.writes ∙ written ∙ ap (office_writes office) same,
     ))

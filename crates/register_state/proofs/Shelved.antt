@@ -6,15 +6,15 @@ use Rattle.std.proofs.lemmas.Bool.{eqb-true}
 use Rattle.register_words.specs.declared.sheets.Form.{Form}
 use Rattle.register_words.specs.declared.sheets.Sheet.{Sheet}
 use Rattle.copy_forms.specs.Trails.{Publication, Trail, copy_of, delta_between, nothing_published}
-use Rattle.golden_shelf.specs.Bases.{base_in, moments_of}
+use Rattle.golden_shelf.specs.Bases.{base_in, trail_moments}
 use Rattle.register_words.specs.declared.base.Base.{Base}
 use Rattle.golden_shelf.specs.declared.fault.ShelfFault.{ShelfFault}
 use Rattle.golden_shelf.specs.declared.fault.ShelfFault.TheVariants as shelf_faults
 use Rattle.lei_code.specs.Texts as texts
-use Rattle.golden_shelf.specs.Changes.{Changes, IsIssued}
+use Rattle.golden_shelf.specs.Changes.{IsIssued, KeyChanges}
 use Rattle.golden_shelf.specs.declared.issue.Issue.{Issue}
-use Rattle.golden_shelf.specs.Shelves.{AreIssuesOf, Kept, Keeps as KeepsTrail, ShelfState, last_behind, latest, latest_rows}
-use Rattle.lei_outside.specs.Keeping.{number_of}
+use Rattle.golden_shelf.specs.Shelves.{AreIssuesOf, Kept, KeepsTrail as KeepsTrail, ShelfState, last_after, latest, latest_rows}
+use Rattle.lei_outside.specs.Keeping.{entry_number}
 use Rattle.lei_outside.specs.declared.entry.KeptEntry.{KeptEntry}
 use Rattle.lei_outside.specs.declared.faults.NoMemory.{NoMemory}
 use Rattle.register_table.specs.Held.{Held}
@@ -30,10 +30,10 @@ use Rattle.register_words.specs.declared.request.Request.TheVariants.{Accredit, 
 use Rattle.register_words.specs.declared.request.Call.{Call}
 use Rattle.register_state.specs.Deciding.{Decides}
 use Rattle.register_history.specs.Legal.{Legal, request_of}
-use Rattle.register_history.specs.Publications.{is_wide, last_published, publication_by, trail}
+use Rattle.register_history.specs.Publications.{are_wide_rules, last_published, publication_by, trail}
 use Rattle.register_history.specs.Publishing.{AreChangesSince, AreNextChanges}
 use Rattle.register_history.specs.Register.{after, held_after}
-use Rattle.register_history.specs.Replies.{Outcome, changed, copy_outcome, delta_outcome, form_kind, next_publication, outcome_at, publication_entry, published_counts, reply_of, stays, takes_memory}
+use Rattle.register_history.specs.Replies.{Outcome, copy_outcome, delta_outcome, delta_to_latest, form_kind, next_publication, outcome_at, publication_entry, published_counts, reply_of, stays, takes_memory}
 use Rattle.register_state.specs.Shelving.{IsShelved, Shelves, back_to}
 use Rattle.register_history.specs.State.{office_of}
 use Rattle.register_history.proofs.Histories.{last_entry-push, request_adds}
@@ -102,7 +102,7 @@ next-shelved limits history e kept is keeps =
     subst (λ t. KeepsTrail t kept) (sym same) keeps
 
 -- what was touched since the last publication is what the next one changes
-pub next-changes : (limits : Limits) (history : History) (after upto : ℕ) (held : Held) (changes list : Changes) → after ≡ last_published history → upto ≡ length history
+pub next-changes : (limits : Limits) (history : History) (after upto : ℕ) (held : Held) (changes list : KeyChanges) → after ≡ last_published history → upto ≡ length history
     → held ≡ held_after limits history → list ≡ changes → AreChangesSince after upto held changes → AreNextChanges limits history list
 next-changes limits history after upto held changes list is_after is_upto is_held same are = record {
   told = are.told;
@@ -128,21 +128,21 @@ shelf-few limits history kept number shelved most next =
     omega (arith, made, count, most, next)
 
 -- the shelf with the next publication keeps the history with its entry
-pub published-shelved : (limits : Limits) (history : History) (number : ℕ) (terms : EntryTerms) (changes : Changes) (old new : Kept) → Legal (office_of limits history) → AreNextChanges limits history changes
+pub published-shelved : (limits : Limits) (history : History) (number : ℕ) (terms : EntryTerms) (changes : KeyChanges) (old new : Kept) → Legal (office_of limits history) → AreNextChanges limits history changes
     → IsShelved (office_of limits history) old
-    → ((made : Trail) (next : Publication) → KeepsTrail made old → IsIssued (latest_rows made) terms.moment (is_wide terms.rules) changes next → KeepsTrail (made ++ next ∷ []) new)
+    → ((made : Trail) (next : Publication) → KeepsTrail made old → IsIssued (latest_rows made) terms.moment (are_wide_rules terms.rules) changes next → KeepsTrail (made ++ next ∷ []) new)
     → KeepsTrail (trail (office_of limits history) ++ publication_by limits history (publication_entry (office_of limits history) number terms) ∷ []) new
 published-shelved limits history number terms changes old new legal are shelved publish =
     let e = publication_entry (office_of limits history) number terms in
     publish (trail (office_of limits history)) (publication_by limits history e) shelved (next_issued limits history changes e terms.moment legal are refl refl)
 
-last_behind-push : (first : Publication) (later : Trail) (p : Publication) → last_behind first (later ++ p ∷ []) ≡ p
-last_behind-push first [] p = refl
-last_behind-push first (next ∷ later) p = last_behind-push next later p
+last_after-push : (first : Publication) (later : Trail) (p : Publication) → last_after first (later ++ p ∷ []) ≡ p
+last_after-push first [] p = refl
+last_after-push first (next ∷ later) p = last_after-push next later p
 
 latest-push : (made : Trail) (p : Publication) → latest (made ++ p ∷ []) ≡ Some p
 latest-push [] p = refl
-latest-push (first ∷ later) p = ap Some (last_behind-push first later p)
+latest-push (first ∷ later) p = ap Some (last_after-push first later p)
 
 -- the numbers of the latest rows are those in the entry's answer
 pub published-counted : (limits : Limits) (history : History) (made : Trail) (e : KeptEntry) (counts : ℕ × ℕ × ℕ)
@@ -170,7 +170,7 @@ pub copy-told : (made : Trail) (kept : Kept) (sheet : Sheet) (form : Form) (byte
     → ((made : Trail) (last : Publication) → KeepsTrail made kept → latest made ≡ Some last → bytes ≡ copy_of (length made) last sheet form)
     → copy_outcome sheet form made ≡ stays (Text 200 (form_kind form) bytes)
 copy-told [] kept sheet form bytes keeps some is = absurd (some (none-published [] kept keeps refl))
-copy-told (first ∷ later) kept sheet form bytes keeps some is = ap (λ b. stays (Text 200 (form_kind form) b)) (sym (is (first ∷ later) (last_behind first later) keeps refl))
+copy-told (first ∷ later) kept sheet form bytes keeps some is = ap (λ b. stays (Text 200 (form_kind form) b)) (sym (is (first ∷ later) (last_after first later) keeps refl))
 
 pub copy-memory : (made : Trail) (kept : Kept) (sheet : Sheet) (form : Form) → KeepsTrail made kept → (kept.issues ≡ [] → ⊥) → IsTrue (takes_memory (Copy sheet form) (reply_of (copy_outcome sheet form made)))
 copy-memory [] kept sheet form keeps some = absurd (some (none-published [] kept keeps refl))
@@ -192,22 +192,22 @@ IsToldOf request outcome form (Err shelf_faults.NoBase) = outcome ≡ stays (Wor
 
 -- what a shelf returns for a base, and the fault that it reports, by the trail that it keeps
 abbrev pub Refuses : Base → Kept → Result texts.Text ShelfFault → Type 0
-Refuses base kept given = (made : Trail) (fault : ShelfFault) → KeepsTrail made kept → base_in (moments_of made) base ≡ Err fault → given ≡ Err fault
+Refuses base kept given = (made : Trail) (fault : ShelfFault) → KeepsTrail made kept → base_in (trail_moments made) base ≡ Err fault → given ≡ Err fault
 
 abbrev pub Gives : Base → Sheet → Form → Kept → Result texts.Text ShelfFault → Type 0
-Gives base sheet form kept given = (made : Trail) (from : ℕ) (last : Publication) → KeepsTrail made kept → latest made ≡ Some last → base_in (moments_of made) base ≡ Ok from
+Gives base sheet form kept given = (made : Trail) (from : ℕ) (last : Publication) → KeepsTrail made kept → latest made ≡ Some last → base_in (trail_moments made) base ≡ Ok from
     → MatchResult given (λ bytes. bytes ≡ delta_between made from (length made) last sheet form) (λ fault. fault ≡ shelf_faults.NoMemory)
 
 given-told : (base : Base) (made : Trail) (sheet : Sheet) (form : Form) (from : ℕ) (last : Publication) (given : Result texts.Text ShelfFault)
     → MatchResult given (λ bytes. bytes ≡ delta_between made from (length made) last sheet form) (λ fault. fault ≡ shelf_faults.NoMemory)
-    → IsToldOf (Delta base sheet form) (changed sheet form made (Ok from) (Some last)) form given
+    → IsToldOf (Delta base sheet form) (delta_to_latest sheet form made (Ok from) (Some last)) form given
 given-told base made sheet form from last (Ok bytes) is = ap (λ b. stays (Text 200 (form_kind form) b)) (sym is)
 given-told base made sheet form from last (Err shelf_faults.NoMemory) is = refl
 given-told base made sheet form from last (Err shelf_faults.NothingPublished) is = cc
 given-told base made sheet form from last (Err shelf_faults.PublicationUnknown) is = cc
 given-told base made sheet form from last (Err shelf_faults.NoBase) is = cc
 
-refused-told : (base : Base) (made : Trail) (sheet : Sheet) (form : Form) (fault : ShelfFault) → IsToldOf (Delta base sheet form) (changed sheet form made (Err fault) (latest made)) form (Err fault)
+refused-told : (base : Base) (made : Trail) (sheet : Sheet) (form : Form) (fault : ShelfFault) → IsToldOf (Delta base sheet form) (delta_to_latest sheet form made (Err fault) (latest made)) form (Err fault)
 refused-told base made sheet form shelf_faults.NoMemory = refl
 refused-told base made sheet form shelf_faults.NothingPublished = refl
 refused-told base made sheet form shelf_faults.PublicationUnknown = refl
@@ -215,18 +215,18 @@ refused-told base made sheet form shelf_faults.NoBase = refl
 
 pub delta-told : (made : Trail) (kept : Kept) (base : Base) (sheet : Sheet) (form : Form) (given : Result texts.Text ShelfFault) → KeepsTrail made kept → Refuses base kept given → Gives base sheet form kept given
     → IsToldOf (Delta base sheet form) (delta_outcome base sheet form made) form given
-delta-told made kept base sheet form given keeps refuses gives = by_found made keeps (base_in (moments_of made) base) refl
+delta-told made kept base sheet form given keeps refuses gives = by_found made keeps (base_in (trail_moments made) base) refl
   where
-    by_found : (made : Trail) → KeepsTrail made kept → (found : Result ℕ ShelfFault) → base_in (moments_of made) base ≡ found → IsToldOf (Delta base sheet form) (delta_outcome base sheet form made) form given
+    by_found : (made : Trail) → KeepsTrail made kept → (found : Result ℕ ShelfFault) → base_in (trail_moments made) base ≡ found → IsToldOf (Delta base sheet form) (delta_outcome base sheet form made) form given
     by_found made keeps (Err fault) is =
-        let Told : Result ℕ ShelfFault → Type 0 = λ found. IsToldOf (Delta base sheet form) (changed sheet form made found (latest made)) form given in
-        let Given : Result texts.Text ShelfFault → Type 0 = λ given. IsToldOf (Delta base sheet form) (changed sheet form made (Err fault) (latest made)) form given in
+        let Told : Result ℕ ShelfFault → Type 0 = λ found. IsToldOf (Delta base sheet form) (delta_to_latest sheet form made found (latest made)) form given in
+        let Given : Result texts.Text ShelfFault → Type 0 = λ given. IsToldOf (Delta base sheet form) (delta_to_latest sheet form made (Err fault) (latest made)) form given in
         subst Told (sym is) (subst Given (sym (refuses made fault keeps is)) (refused-told base made sheet form fault))
     by_found [] keeps (Ok from) is = cc
     by_found (first ∷ later) keeps (Ok from) is =
         let made = first ∷ later in
-        let last = last_behind first later in
-        let Told : Result ℕ ShelfFault → Type 0 = λ found. IsToldOf (Delta base sheet form) (changed sheet form made found (Some last)) form given in
+        let last = last_after first later in
+        let Told : Result ℕ ShelfFault → Type 0 = λ found. IsToldOf (Delta base sheet form) (delta_to_latest sheet form made found (Some last)) form given in
         subst Told (sym is) (given-told base made sheet form from last given (gives made from last keeps refl is))
 
 -- ---- the entry of the latest publication
@@ -243,4 +243,4 @@ latest-found entries i k e within next at is nothing =
     ap (filter is_publication) (cut-at entries i e within at) ∙ (ap (λ b. cond b (e ∷ filter is_publication (drop (suc i) entries)) (filter is_publication (drop (suc i) entries))) is ∙ ap (λ l. e ∷ l) none) in
     let whole : publications entries ≡ front ++ e ∷ [] =
     ap (filter is_publication) (sym (take-append-drop i entries)) ∙ (filter-append is_publication (take i entries) (drop i entries) ∙ ap (λ l. front ++ l) behind) in
-    ap (λ l. number_of (last_entry l)) whole ∙ ap number_of (last_entry-push front e)
+    ap (λ l. entry_number (last_entry l)) whole ∙ ap entry_number (last_entry-push front e)

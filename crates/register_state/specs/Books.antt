@@ -18,9 +18,9 @@ pub record AreBooks (limits : Limits) (history : History) (table : TableState) :
   pub of_table : IsKeptAfter limits history table
 
 -- the office with one more entry
-abbrev pub with_entry : OfficeState → KeptEntry → OfficeState
-with_entry office e = office_of office.limits (office.history ++ e ∷ [])
+abbrev pub office_with_entry : OfficeState → KeptEntry → OfficeState
+office_with_entry office e = office_of office.limits (office.history ++ e ∷ [])
 
 -- what an entry writes, judged on the table after the office's history
-abbrev pub writes_of : OfficeState → KeptEntry → WriteList
-writes_of office e = entry_writes office.limits (after office.limits office.history) e
+abbrev pub office_writes : OfficeState → KeptEntry → WriteList
+office_writes office e = entry_writes office.limits (after office.limits office.history) e

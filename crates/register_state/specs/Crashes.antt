@@ -5,13 +5,13 @@ use Rattle.lei_outside.specs.declared.entry.KeptEntry.{KeptEntry}
 use Rattle.register_history.specs.Kept.{AreTablesOf}
 use Rattle.register_history.specs.Legal.{Legal}
 use Rattle.register_history.specs.State.{OfficeState}
-use Rattle.register_state.specs.Books.{with_entry}
+use Rattle.register_state.specs.Books.{office_with_entry}
 
 -- The tables of the office, or those of the office with one more entry and a legal history.
 abbrev pub IsLeftOf : OfficeState → Option KeptTables → Type 0
 IsLeftOf office None = ⊥
 IsLeftOf office (Some tables) = AreTablesOf office tables
-    ⊎ ((e : KeptEntry) × Legal (with_entry office e) × AreTablesOf (with_entry office e) tables)
+    ⊎ ((e : KeptEntry) × Legal (office_with_entry office e) × AreTablesOf (office_with_entry office e) tables)
 
 -- A crash may leave only these.
 abbrev pub LeavesOnly : OfficeState → (Option KeptTables → Type 0) → Type 0

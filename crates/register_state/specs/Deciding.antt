@@ -5,7 +5,7 @@ use Rattle.lei_outside.specs.declared.faults.KeepFault.{KeepFault}
 use Rattle.lei_outside.specs.declared.faults.KeepFault.TheVariants as keep_faults
 use Rattle.lei_outside.specs.declared.entry.KeptEntry.{KeptEntry}
 use Rattle.lei_outside.specs.declared.faults.NoMemory.{NoMemory}
-use Rattle.register_state.specs.Books.{writes_of}
+use Rattle.register_state.specs.Books.{office_writes}
 use Rattle.register_state.specs.declared.decision.Decision.{Decision}
 use Rattle.register_state.specs.declared.decision.Decision.TheVariants.{Adds, Stays}
 use Rattle.register_words.specs.Requests.{IsRequest}
@@ -22,13 +22,13 @@ use Rattle.upload_ledger.specs.Limits.{AreFew}
 abbrev pub Decides : OfficeState → Request → Outcome → Result Decision NoMemory → Type 0
 Decides office request outcome (Ok (Stays reply)) = outcome ≡ stays reply
 Decides office request outcome (Ok (Adds entry list)) = (outcome ≡ adds entry)
-    × (list ≡ writes_of office entry)
+    × (list ≡ office_writes office entry)
 Decides office request outcome (Err wanted) = IsTrue (takes_memory request (reply_of outcome))
 
 -- the reply to a request that adds nothing, or an out-of-memory error, if the reply needs memory
-abbrev pub Tells : Request → Outcome → Result Reply NoMemory → Type 0
-Tells request outcome (Ok reply) = outcome ≡ stays reply
-Tells request outcome (Err wanted) = IsTrue (takes_memory request (reply_of outcome))
+abbrev pub GivesReply : Request → Outcome → Result Reply NoMemory → Type 0
+GivesReply request outcome (Ok reply) = outcome ≡ stays reply
+GivesReply request outcome (Err wanted) = IsTrue (takes_memory request (reply_of outcome))
 
 -- an entry has the next number, an office that is ASCII, and room in the ledger
 abbrev pub FitsNext : OfficeState → KeptEntry → Type 0

@@ -6,7 +6,7 @@ use Rattle.register_words.specs.Requests.{IsRequest}
 use Rattle.register_words.specs.declared.request.Request.{Request}
 use Rattle.register_history.specs.Replies.{adds, outcome_by, stays}
 use Rattle.register_history.specs.State.{OfficeState}
-use Rattle.register_state.specs.Books.{with_entry}
+use Rattle.register_state.specs.Books.{office_with_entry}
 use Rattle.register_state.specs.declared.decision.Decision.{Decision}
 use Rattle.register_state.specs.declared.decision.Decision.TheVariants.{Adds, Stays}
 
@@ -15,7 +15,7 @@ use Rattle.register_state.specs.declared.decision.Decision.TheVariants.{Adds, St
 abbrev pub ReplaysRequest : OfficeState → Request → KeptEntry → OfficeState → Option Decision → Type 0
 ReplaysRequest before request e after None =
     (outcome_by e.rules before request e.moment ≡ adds e) × IsRequest request × IsMoment e.moment
-    × (after ≡ with_entry before e)
+    × (after ≡ office_with_entry before e)
 ReplaysRequest before request e after (Some (Stays reply)) =
     (outcome_by e.rules before request e.moment ≡ stays reply) × (after ≡ before)
 ReplaysRequest before request e after (Some (Adds entry list)) =

@@ -1,9 +1,9 @@
 -- Shelving: what the shelf keeps of a history, and how that changes when a request is decided.
 use Rattle.std.specs.Prelude.{◌≡◌, Bool, true, false, Option, Some, Result, Ok, Err}
-use Rattle.golden_shelf.specs.Shelves.{Kept, ShelfState, Keeps as KeepsTrail}
+use Rattle.golden_shelf.specs.Shelves.{Kept, ShelfState, KeepsTrail as KeepsTrail}
 use Rattle.lei_outside.specs.declared.faults.NoMemory.{NoMemory}
 use Rattle.upload_ledger.specs.History.{is_publication}
-use Rattle.register_state.specs.Books.{with_entry}
+use Rattle.register_state.specs.Books.{office_with_entry}
 use Rattle.register_state.specs.declared.decision.Decision.{Decision}
 use Rattle.register_state.specs.declared.decision.Decision.TheVariants.{Adds, Stays}
 use Rattle.register_history.specs.Publications.{trail}
@@ -24,5 +24,5 @@ back_to false shelf = Some shelf.now
 abbrev pub Shelves : OfficeState → ShelfState → Result Decision NoMemory → ShelfState → Type 0
 Shelves office old (Ok (Stays reply)) new = new.now ≡ old.now
 Shelves office old (Ok (Adds entry list)) new =
-    IsShelved (with_entry office entry) new.now × (back_to (is_publication entry) new ≡ Some old.now)
+    IsShelved (office_with_entry office entry) new.now × (back_to (is_publication entry) new ≡ Some old.now)
 Shelves office old (Err wanted) new = new.now ≡ old.now

@@ -3,13 +3,13 @@ ghost use Rattle.std.specs.Prelude.{◌≡◌, take, IfOk, length};
 ghost use Rattle.lei_shapes.specs.Moment.{IsMoment};
 ghost use Rattle.lei_records.specs.Tables.{cells_of};
 ghost use Rattle.fetched_cells.specs.Fetching.{HasJust, fetched_keys};
-ghost use Rattle.fetched_cells.specs.Maps.{cells_in};
+ghost use Rattle.fetched_cells.specs.Maps.{fetched_view};
 ghost use Rattle.upload_ledger.specs.Limits.{AreFew};
 ghost use Rattle.register_words.specs.Limits.{AreLimits};
 ghost use Rattle.register_history.specs.Legal.{Legal};
 ghost use Rattle.register_history.specs.Register.{after};
 ghost use Rattle.register_history.specs.Replies.{is_full, is_too_much, terms_by};
-ghost use Rattle.register_history.specs.State.{opened};
+ghost use Rattle.register_history.specs.State.{new_office};
 
 use crate::entries::stamp;
 use fetched_cells::Fetched;
@@ -50,7 +50,7 @@ impl Books {
     // Books without entries.
     pub fn new(alloc: Global, limits: Limits) -> Result<Self, NoMemory>
         requires { AreLimits limits }
-        ensures { IfOk result (λ books. books ≡ opened limits) }
+        ensures { IfOk result (λ books. books ≡ new_office limits) }
     {
         let ledger = Ledger::new(alloc)?;
         let table = Table::new(alloc)?;
@@ -95,7 +95,7 @@ impl Books {
 
     // The cells of these keys, and those of the walks from the records among them.
     pub fn fetch(&self, keys: &[CellKey]) -> Result<Fetched, NoMemory>
-        ensures cells { IfOk result (λ fetched. HasJust (cells_in fetched)
+        ensures cells { IfOk result (λ fetched. HasJust (fetched_view fetched)
             (cells_of (after self.now.limits self.now.history))
             (take 50_000 (fetched_keys (cells_of (after self.now.limits self.now.history)) keys.now))) }
         ensures legal { Legal self.now }

@@ -9,15 +9,15 @@ ghost use Rattle.upload_ledger.specs.History.{accredited};
 ghost use Rattle.register_words.specs.declared.request.Request.TheVariants.{Accredit, Kept, Show, Status, Upload};
 ghost use Rattle.register_judge.specs.Sittings.{sitting_by};
 ghost use Rattle.register_state.specs.Shelving.{IsShelved, Shelves};
-ghost use Rattle.register_state.specs.Deciding.{AddsNext, Decides, Tells};
+ghost use Rattle.register_state.specs.Deciding.{AddsNext, Decides, GivesReply};
 ghost use Rattle.register_state.specs.Planning.{IsPlanOf, IsTakenBy};
-ghost use Rattle.register_history.specs.Legal.{may_follow};
+ghost use Rattle.register_history.specs.Legal.{rules_may_follow};
 ghost use Rattle.register_history.specs.Replies.{accredit_outcome, body_outcome, is_full, is_too_much, json_reply, kept_outcome, newest_rules, outcome_at, show_outcome, status_outcome, upload_outcome};
-ghost use Rattle.register_words.specs.Requests.{IsNumbered, IsUploadNumber};
+ghost use Rattle.register_words.specs.Requests.{HasNumberInRange, IsUploadNumber};
 ghost use Rattle.register_history.specs.Register.{after};
 
 use crate::books::Books;
-use crate::decision::{Decision, refused};
+use crate::decision::{Decision, refuse};
 use crate::entries::{accreditation, taken_upload};
 use crate::judge::{is_usable, judge, ready_all};
 use crate::publishing::{copy, delta};
@@ -47,10 +47,10 @@ impl Books {
         request: &Request,
         terms: &EntryTerms,
     ) -> Result<Decision, NoMemory>
-        requires numbered { IsNumbered request.now }
+        requires numbered { HasNumberInRange request.now }
         requires first { 1 ≤ terms.now.rules }
         requires last { terms.now.rules ≤ newest_rules }
-        requires follows { IsTrue (may_follow self.now.history terms.now.rules) }
+        requires follows { IsTrue (rules_may_follow self.now.history terms.now.rules) }
         requires shelf { IsShelved self.now shelf.old.now }
         ensures decides { Decides self.now request.now (outcome_at self.now request.now terms.now) result }
         ensures next { AddsNext self.now request.now result }
@@ -59,7 +59,7 @@ impl Books {
         match request {
             Request::Accredit(issuer) => self.accredit(issuer, terms),
             Request::Upload(call) => self.upload(rt, reader, call, None, terms),
-            Request::Kept(issuer, number) => Ok(Decision::Stays(self.kept(issuer, *number)?)),
+            Request::Kept(issuer, number) => Ok(Decision::Stays(self.kept_reply(issuer, *number)?)),
             Request::Publish(number) => self.publish(rt, shelf, *number, terms),
             Request::Show(lei) => Ok(Decision::Stays(self.show(lei)?)),
             Request::Copy(sheet, form) => Ok(Decision::Stays(copy(shelf, *sheet, *form)?)),
@@ -72,7 +72,7 @@ impl Books {
 
     // Replies with the record of this LEI.
     fn show(&self, lei: &Lei) -> Result<Reply, NoMemory>
-        ensures { Tells (Show lei.now)
+        ensures { GivesReply (Show lei.now)
             (show_outcome (row_at (after self.now.limits self.now.history) lei.now)) result }
     {
         match self.table.show(lei) {
@@ -85,8 +85,9 @@ impl Books {
     }
 
     // Replies with the answer that is kept for the issuer's upload of this number.
-    fn kept(&self, issuer: &Lei, number: u32) -> Result<Reply, NoMemory>
-        ensures { Tells (Kept issuer.now number) (kept_outcome self.now.history issuer.now number) result }
+    fn kept_reply(&self, issuer: &Lei, number: u32) -> Result<Reply, NoMemory>
+        ensures { GivesReply (Kept issuer.now number)
+            (kept_outcome self.now.history issuer.now number) result }
     {
         if self.ledger.accredited(issuer).is_none() {
             return Ok(Reply::Words(Refusal::IssuerUnknown));
@@ -99,7 +100,7 @@ impl Books {
 
     // Replies with the numbers of what is kept and held.
     fn status(&self) -> Result<Reply, NoMemory>
-        ensures { Tells Status (status_outcome self.now.history
+        ensures { GivesReply Status (status_outcome self.now.history
             (after self.now.limits self.now.history)) result }
     {
         let text = status_text(self.alloc, self.ledger.totals(), self.table.counts())?;
@@ -117,7 +118,7 @@ impl Books {
             return Ok(Decision::Stays(kept_reply(self.alloc, text)?));
         }
         if self.is_full() {
-            return Ok(refused(Refusal::LedgerFull));
+            return Ok(refuse(Refusal::LedgerFull));
         }
         let entry = accreditation(self.alloc, self.ledger.entries(), issuer, terms)?;
         Ok(Decision::Adds(entry, List::from(Vec::new(self.alloc))))
@@ -143,16 +144,16 @@ impl Books {
         ensures next { AddsNext self.now (Upload call.now) result }
     {
         if call.body.len() as u64 > self.limits.body {
-            return Ok(refused(Refusal::TooLong));
+            return Ok(refuse(Refusal::TooLong));
         }
         match self
             .ledger
             .place(&call.office, call.number, call.body.as_slice())
         {
-            Place::UnknownOffice => Ok(refused(Refusal::IssuerUnknown)),
+            Place::UnknownOffice => Ok(refuse(Refusal::IssuerUnknown)),
             Place::Repeat(answer) => Ok(Decision::Stays(kept_reply(self.alloc, answer)?)),
-            Place::Taken => Ok(refused(Refusal::NumberTaken)),
-            Place::Ahead(next) => Ok(refused(Refusal::NumberAhead(next))),
+            Place::Taken => Ok(refuse(Refusal::NumberTaken)),
+            Place::Ahead(next) => Ok(refuse(Refusal::NumberAhead(next))),
             Place::Fresh => self.take_fresh(rt, reader, call, plan, terms),
         }
     }
@@ -209,7 +210,7 @@ impl Books {
         // A step of the proof: the limits are in their ranges.
         let _limits = self.limits();
         if self.is_full() || self.is_too_much(call.body.as_slice()) {
-            return Ok(refused(Refusal::LedgerFull));
+            return Ok(refuse(Refusal::LedgerFull));
         }
         self.add_judged(call, plan.outcome, terms)
     }
@@ -230,11 +231,11 @@ impl Books {
     {
         let upload = match reader.read(self.alloc, call.body.as_slice()) {
             Ok(upload) => upload,
-            Err(UploadFault::Malformed(fault)) => return Ok(refused(Refusal::Malformed(fault))),
+            Err(UploadFault::Malformed(fault)) => return Ok(refuse(Refusal::Malformed(fault))),
             Err(UploadFault::NoMemory) => return Err(NoMemory),
         };
         if self.is_full() || self.is_too_much(call.body.as_slice()) {
-            return Ok(refused(Refusal::LedgerFull));
+            return Ok(refuse(Refusal::LedgerFull));
         }
         let items = ready_all(rt, self.alloc, terms.rules, upload.items.as_slice())?;
         let sitting = sitting(self.limits.records, call, terms);
@@ -274,7 +275,8 @@ impl Books {
 fn sitting(records: u32, call: &Call, terms: &EntryTerms) -> Sitting
     requires first { 1 ≤ terms.now.rules }
     requires last { terms.now.rules ≤ newest_rules }
-    ensures { result ≡ sitting_by (rules_of terms.now.rules) records (day_of terms.now.moment) call.now.office }
+    ensures { result ≡ sitting_by (rules_of terms.now.rules) records
+        (day_of terms.now.moment) call.now.office }
 {
     Sitting {
         rules: Rules::numbered(terms.rules),

@@ -15,7 +15,7 @@ pub enum Decision {
 }
 
 // The refusal of a request that adds nothing.
-pub fn refused(refusal: Refusal) -> Decision
+pub fn refuse(refusal: Refusal) -> Decision
     ensures { result ≡ Decision.Stays (Reply.Words refusal) }
 {
     Decision::Stays(Reply::Words(refusal))

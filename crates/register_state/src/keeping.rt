@@ -3,14 +3,14 @@ ghost use Rattle.std.specs.Prelude.{◌≡◌, ◌≤◌, ◌+◌, ◌++◌, ◌
 ghost use Rattle.std.specs.List.{AllByRecursion};
 ghost use Rattle.copy_forms.specs.Items.{item_text};
 ghost use Rattle.lei_outside.specs.Count.{Rose};
-ghost use Rattle.lei_outside.specs.Keeping.{LeavesTold, Stays, last_number};
+ghost use Rattle.lei_outside.specs.Keeping.{LeavesTold, TablesStay, last_number};
 ghost use Rattle.upload_ledger.specs.Limits.{AreFew};
-ghost use Rattle.register_history.specs.Kept.{AreTablesOf, AreTablesWith, IsKey, Keeps, StaysUntold, kept_cell, kind_of, name_of};
+ghost use Rattle.register_history.specs.Kept.{AreTablesOf, AreTablesWith, IsKey, Keeps, StaysUntold, kept_cell, key_kind, key_name};
 ghost use Rattle.register_history.specs.Legal.{Legal};
 ghost use Rattle.register_history.specs.Register.{held_after};
-ghost use Rattle.register_history.specs.Replies.{told};
+ghost use Rattle.register_history.specs.Replies.{entry_reply};
 ghost use Rattle.register_history.specs.Touching.{AreCellsTouched, Touches};
-ghost use Rattle.register_state.specs.Books.{with_entry, writes_of};
+ghost use Rattle.register_state.specs.Books.{office_with_entry, office_writes};
 ghost use Rattle.register_state.specs.Crashes.{LeavesAlso};
 ghost use Rattle.register_state.specs.Deciding.{FitsNext};
 ghost use Rattle.register_table.specs.Held.{Held};
@@ -36,24 +36,25 @@ impl Books {
         entry: KeptEntry,
         writes: &Writes,
     ) -> Result<Reply, KeepFault>
-        requires legal { Legal (with_entry self.old entry) }
+        requires legal { Legal (office_with_entry self.old entry) }
         requires fits { FitsNext self.old entry }
-        requires writes { writes.now ≡ writes_of self.old entry }
+        requires writes { writes.now ≡ office_writes self.old entry }
         requires kept { Keeps (K.tables keeper.old) self.old }
-        ensures reply { IfOk result (λ reply. reply ≡ told entry) }
-        ensures added { OnOk result (self.new ≡ with_entry self.old entry) }
+        ensures reply { IfOk result (λ reply. reply ≡ entry_reply entry) }
+        ensures added { OnOk result (self.new ≡ office_with_entry self.old entry) }
         ensures stays { OnErr result (self.new ≡ self.old) }
         ensures legal { Legal self.new }
         ensures kept { Keeps (K.tables keeper.new) self.new }
         ensures untold { StaysUntold (K.tables keeper.old) (K.tables keeper.new) }
         ensures leaves_added { OnOk result (LeavesTold (K.tables keeper.new) (K.leaves keeper.new)) }
         ensures leaves_refused { OnErr result
-            (LeavesAlso (AreTablesOf (with_entry self.old entry)) (K.leaves keeper.old) (K.leaves keeper.new)) }
+            (LeavesAlso (AreTablesOf (office_with_entry self.old entry)) (K.leaves keeper.old)
+            (K.leaves keeper.new)) }
         ensures count { K.faults keeper.old ≤ K.faults keeper.new }
         ensures faultless { ¬ (IsErrOf result KeepFault.Failed) → K.faults keeper.new ≡ K.faults keeper.old }
         ensures failed { IsErrOf result KeepFault.Failed → Rose (K.faults keeper.old) (K.faults keeper.new) }
     {
-        let reply = told(self.alloc, &entry)?;
+        let reply = entry_reply(self.alloc, &entry)?;
         self.table.apply(writes, entry.seq)?;
         match keep(self.alloc, &mut self.ledger, &self.table, keeper, entry) {
             Ok(()) => Ok(reply),
@@ -66,10 +67,10 @@ impl Books {
 
     // Adds an entry that is kept already, with its writes. If memory runs out, nothing changes.
     pub fn add_kept(&mut self, entry: KeptEntry, writes: &Writes) -> Result<(), NoMemory>
-        requires legal { Legal (with_entry self.old entry) }
+        requires legal { Legal (office_with_entry self.old entry) }
         requires fits { FitsNext self.old entry }
-        requires writes { writes.now ≡ writes_of self.old entry }
-        ensures added { OnOk result (self.new ≡ with_entry self.old entry) }
+        requires writes { writes.now ≡ office_writes self.old entry }
+        ensures added { OnOk result (self.new ≡ office_with_entry self.old entry) }
         ensures stays { OnErr result (self.new ≡ self.old) }
     {
         self.ledger.reserve(&entry)?;
@@ -87,8 +88,8 @@ impl Books {
 }
 
 // The reply with an entry's answer.
-fn told(alloc: Global, entry: &KeptEntry) -> Result<Reply, NoMemory>
-    ensures { IfOk result (λ reply. reply ≡ told entry.now) }
+fn entry_reply(alloc: Global, entry: &KeptEntry) -> Result<Reply, NoMemory>
+    ensures { IfOk result (λ reply. reply ≡ entry_reply entry.now) }
 {
     Ok(Reply::Text {
         code: if entry.kind == PUBLISH { 201 } else { 200 },
@@ -114,7 +115,7 @@ fn keep<K: Keeper>(
     ensures kept { OnOk result ((before : Held) → Touches entry.seq before table.now.held
         → IfSome (K.tables keeper.old) (AreTablesWith ledger.old.entries before)
         → IfSome (K.tables keeper.new) (AreTablesWith (ledger.old.entries ++ entry ∷ []) table.now.held)) }
-    ensures tables_stay { OnErr result (Stays (K.tables keeper.old) (K.tables keeper.new)) }
+    ensures tables_stay { OnErr result (TablesStay (K.tables keeper.old) (K.tables keeper.new)) }
     ensures untold { StaysUntold (K.tables keeper.old) (K.tables keeper.new) }
     ensures leaves_added { OnOk result (LeavesTold (K.tables keeper.new) (K.leaves keeper.new)) }
     ensures leaves_refused { OnErr result ((before : Held) → Touches entry.seq before table.now.held
@@ -190,7 +191,7 @@ fn row_text(alloc: Global, item: &Option<Item>) -> Result<Option<Shared>, NoMemo
 }
 
 fn kind(key: &RowKey) -> u8
-    ensures kind { result ≡ kind_of key.now }
+    ensures kind { result ≡ key_kind key.now }
     ensures key { IsKey key.now }
 {
     match key {
@@ -212,26 +213,26 @@ fn kind(key: &RowKey) -> u8
 
 // The texts of a row's key, separated by single spaces.
 fn name(alloc: Global, key: &RowKey) -> Result<Bytes, NoMemory>
-    ensures { IfOk result (λ name. name ≡ name_of key.now) }
+    ensures { IfOk result (λ name. name ≡ key_name key.now) }
 {
     let mut name = Vec::with_capacity(alloc, NAME)?;
     match key {
         RowKey::Rec(lei) => name.extend_from_slice(lei.as_bytes())?,
         RowKey::Rel(start, kind, end) => {
             name.extend_from_slice(start.as_bytes())?;
-            put_behind(&mut name, kind.text().as_bytes())?;
-            put_behind(&mut name, end.as_bytes())?;
+            append_word(&mut name, kind.text().as_bytes())?;
+            append_word(&mut name, end.as_bytes())?;
         }
         RowKey::Exc(lei, category) => {
             name.extend_from_slice(lei.as_bytes())?;
-            put_behind(&mut name, category.text().as_bytes())?;
+            append_word(&mut name, category.text().as_bytes())?;
         }
     }
     Ok(Bytes::from(name))
 }
 
 // Appends a space and a text to a name.
-fn put_behind(name: &mut Vec<u8>, text: &[u8]) -> Result<(), NoMemory>
+fn append_word(name: &mut Vec<u8>, text: &[u8]) -> Result<(), NoMemory>
     ensures { OnOk result (name.new.items ≡ name.old.items ++ 32 ∷ text.now) }
 {
     name.push(b' ')?;

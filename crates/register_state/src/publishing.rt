@@ -4,20 +4,20 @@ ghost use Rattle.std.specs.Prelude.{◌≡◌, ◌<◌, ◌++◌, ◌∷◌, [],
 ghost use Rattle.copy_csv.specs.Sheets as sheets;
 ghost use Rattle.copy_forms.specs.Trails.{Publication, Trail};
 ghost use Rattle.golden_shelf.specs.Changes.{AreOwnChanges, ArePlain, IsIssued};
-ghost use Rattle.golden_shelf.specs.Shelves.{Keeps as KeepsTrail, MayFollow, latest_rows};
+ghost use Rattle.golden_shelf.specs.Shelves.{KeepsTrail as KeepsTrail, MayFollow, latest_rows};
 ghost use Rattle.upload_ledger.specs.History.{published};
 ghost use Rattle.register_words.specs.declared.request.Request.TheVariants.{Copy, Delta, Publish};
 ghost use Rattle.register_words.specs.Requests.{IsUploadNumber};
-ghost use Rattle.register_state.specs.Books.{with_entry};
-ghost use Rattle.register_state.specs.Deciding.{AddsNext, Decides, Tells};
+ghost use Rattle.register_state.specs.Books.{office_with_entry};
+ghost use Rattle.register_state.specs.Deciding.{AddsNext, Decides, GivesReply};
 ghost use Rattle.register_state.specs.Shelving.{IsShelved, Shelves};
-ghost use Rattle.register_history.specs.Legal.{may_follow};
-ghost use Rattle.register_history.specs.Publications.{is_wide, last_published};
-ghost use Rattle.register_history.specs.Publishing.{AreChangesSince, AreNextChanges, change_of, row_published};
+ghost use Rattle.register_history.specs.Legal.{rules_may_follow};
+ghost use Rattle.register_history.specs.Publications.{are_wide_rules, last_published};
+ghost use Rattle.register_history.specs.Publishing.{AreChangesSince, AreNextChanges, row_change_of, row_published};
 ghost use Rattle.register_history.specs.Replies.{copy_outcome, delta_outcome, form_kind, json_reply, next_publication, publication_entry, publish_outcome};
 
 use crate::books::Books;
-use crate::decision::{Decision, refused};
+use crate::decision::{Decision, refuse};
 use crate::entries::publication;
 use copy_csv::{Form, Row, Sheet, Texts};
 use golden_shelf::{Base, Shelf, ShelfFault};
@@ -48,7 +48,7 @@ impl Books {
         terms: &EntryTerms,
     ) -> Result<Decision, NoMemory>
         requires number { IsUploadNumber number }
-        requires follows { IsTrue (may_follow self.now.history terms.now.rules) }
+        requires follows { IsTrue (rules_may_follow self.now.history terms.now.rules) }
         requires shelf { IsShelved self.now shelf.old.now }
         ensures decides { Decides self.now (Publish number)
             (publish_outcome self.now number terms.now (published self.now.history number)) result }
@@ -60,10 +60,10 @@ impl Books {
         }
         let next = self.ledger.totals().publications + 1;
         if number != next {
-            return Ok(refused(Refusal::NumberAhead(next)));
+            return Ok(refuse(Refusal::NumberAhead(next)));
         }
         if self.is_full() {
-            return Ok(refused(Refusal::LedgerFull));
+            return Ok(refuse(Refusal::LedgerFull));
         }
         let entry = self.publish_next(rt, shelf, number, terms)?;
         Ok(Decision::Adds(entry, List::from(Vec::new(self.alloc))))
@@ -79,10 +79,10 @@ impl Books {
     ) -> Result<KeptEntry, NoMemory>
         requires number { IsUploadNumber number }
         requires next { number ≡ next_publication self.now.history }
-        requires follows { IsTrue (may_follow self.now.history terms.now.rules) }
+        requires follows { IsTrue (rules_may_follow self.now.history terms.now.rules) }
         requires shelf { IsShelved self.now shelf.old.now }
         ensures entry { IfOk result (λ entry. entry ≡ publication_entry self.now number terms.now) }
-        ensures shelf { IfOk result (λ entry. IsShelved (with_entry self.now entry) shelf.new.now) }
+        ensures shelf { IfOk result (λ entry. IsShelved (office_with_entry self.now entry) shelf.new.now) }
         ensures before { OnOk result (shelf.new.before ≡ Some shelf.old.now) }
         ensures stays { OnErr result (shelf.new.now ≡ shelf.old.now) }
     {
@@ -147,13 +147,13 @@ fn shelve<L: Counted, R: Threads + Sync>(
 ) -> Result<(), NoMemory>
     requires changes { AreOwnChanges changes.now }
     requires few { length shelf.old.now.issues < 1_000_000 }
-    requires follows { MayFollow shelf.old.now.issues (is_wide terms.now.rules) }
-    requires plain { is_wide terms.now.rules ≡ false → ArePlain changes.now }
+    requires follows { MayFollow shelf.old.now.issues (are_wide_rules terms.now.rules) }
+    requires plain { are_wide_rules terms.now.rules ≡ false → ArePlain changes.now }
     requires name { blank.name ≡ L.name }
     requires parts { blank.parts ≡ L.parts }
     requires one { blank.parts ≡ 1 }
     ensures next { OnOk result ((trail : Trail) (next : Publication) → KeepsTrail trail shelf.old.now
-        → IsIssued (latest_rows trail) terms.now.moment (is_wide terms.now.rules) changes.now next
+        → IsIssued (latest_rows trail) terms.now.moment (are_wide_rules terms.now.rules) changes.now next
         → KeepsTrail (trail ++ next ∷ []) shelf.new.now) }
     ensures before { OnOk result (shelf.new.before ≡ Some shelf.old.now) }
     ensures err { OnErr result (shelf.new ≡ shelf.old) }
@@ -164,7 +164,7 @@ fn shelve<L: Counted, R: Threads + Sync>(
 
 // Whether a publication is wide, by the rules of its entry. Only some of its files can be wide.
 fn is_wide(rules: u16) -> bool
-    ensures { result ≡ is_wide rules }
+    ensures { result ≡ are_wide_rules rules }
 {
     rules >= WIDE_RULES
 }
@@ -185,7 +185,7 @@ fn changes_since(
 
 // The changes of touched keys.
 fn changes_of(alloc: Global, touched: &[Touched]) -> Result<Vec<(RowKey, Option<Row>)>, NoMemory>
-    ensures { IfOk result (λ changes. changes.items ≡ map change_of touched.now) }
+    ensures { IfOk result (λ changes. changes.items ≡ map row_change_of touched.now) }
 {
     let mut changes = Vec::with_capacity(alloc, touched.len())?;
     for told in touched {
@@ -223,7 +223,7 @@ fn published_row(alloc: Global, item: &Item) -> Result<Option<Row>, NoMemory>
 // The row of a sheet with these texts, which are copied into one allocation.
 fn sheet_row(alloc: Global, sheet: Sheet, fields: &FieldTexts) -> Result<Row, NoMemory>
     requires { length fields.now ≡ sheets.width sheet }
-    ensures { IfOk result (λ row. row ≡ sheets.row_of sheet fields.now) }
+    ensures { IfOk result (λ row. row ≡ sheets.row_of_texts sheet fields.now) }
 {
     let mut texts = Texts::with_capacity(alloc, fields.len(), bytes_of(fields))?;
     for index in 0..fields.len() {
@@ -244,7 +244,7 @@ fn bytes_of(fields: &FieldTexts) -> usize {
 /// Replies with the copy of a sheet in the latest publication, or refuses if nothing was published.
 pub fn copy(shelf: &Shelf, sheet: Sheet, form: Form) -> Result<Reply, NoMemory>
     ensures { (trail : Trail) → KeepsTrail trail shelf.now.now
-        → Tells (Copy sheet form) (copy_outcome sheet form trail) result }
+        → GivesReply (Copy sheet form) (copy_outcome sheet form trail) result }
 {
     match shelf.latest() {
         Some(_) => latest_copy(shelf, sheet, form),
@@ -256,7 +256,7 @@ pub fn copy(shelf: &Shelf, sheet: Sheet, form: Form) -> Result<Reply, NoMemory>
 fn latest_copy(shelf: &Shelf, sheet: Sheet, form: Form) -> Result<Reply, NoMemory>
     requires { ¬ (shelf.now.now.issues ≡ []) }
     ensures { (trail : Trail) → KeepsTrail trail shelf.now.now
-        → Tells (Copy sheet form) (copy_outcome sheet form trail) result }
+        → GivesReply (Copy sheet form) (copy_outcome sheet form trail) result }
 {
     match shelf.copy(sheet, form) {
         Ok(text) => Ok(file_reply(form, text)),
@@ -268,7 +268,7 @@ fn latest_copy(shelf: &Shelf, sheet: Sheet, form: Form) -> Result<Reply, NoMemor
 /// publication.
 pub fn delta(shelf: &Shelf, base: Base, sheet: Sheet, form: Form) -> Result<Reply, NoMemory>
     ensures { (trail : Trail) → KeepsTrail trail shelf.now.now
-        → Tells (Delta base sheet form) (delta_outcome base sheet form trail) result }
+        → GivesReply (Delta base sheet form) (delta_outcome base sheet form trail) result }
 {
     match shelf.delta(base, sheet, form) {
         Ok(text) => Ok(file_reply(form, text)),

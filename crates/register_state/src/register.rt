@@ -4,18 +4,18 @@ ghost use Rattle.lei_outside.specs.Count.{Rose};
 ghost use Rattle.lei_shapes.specs.Moment.{IsMoment};
 ghost use Rattle.lei_records.specs.Tables.{cells_of};
 ghost use Rattle.fetched_cells.specs.Fetching.{HasJust, fetched_keys};
-ghost use Rattle.fetched_cells.specs.Maps.{cells_in};
+ghost use Rattle.fetched_cells.specs.Maps.{fetched_view};
 ghost use Rattle.upload_ledger.specs.Limits.{AreFew};
 ghost use Rattle.register_words.specs.declared.reply.Refusal.TheVariants.{KeeperFault};
 ghost use Rattle.register_words.specs.declared.reply.Reply.TheVariants.{Words};
 ghost use Rattle.register_words.specs.Limits.{AreLimits};
-ghost use Rattle.register_words.specs.Requests.{IsNumbered, IsUploadNumber};
+ghost use Rattle.register_words.specs.Requests.{HasNumberInRange, IsUploadNumber};
 ghost use Rattle.register_words.specs.declared.request.Request.TheVariants.{Upload};
 ghost use Rattle.register_history.specs.Kept.{Keeps, StaysUntold};
-ghost use Rattle.register_history.specs.Legal.{Legal, may_follow};
+ghost use Rattle.register_history.specs.Legal.{Legal, rules_may_follow};
 ghost use Rattle.register_history.specs.Register.{after, held_after};
 ghost use Rattle.register_history.specs.Replies.{Step};
-ghost use Rattle.register_history.specs.State.{opened};
+ghost use Rattle.register_history.specs.State.{new_office};
 ghost use Rattle.register_history.specs.Touching.{AreCellsTouched};
 ghost use Rattle.register_state.specs.Crashes.{CrashStays};
 ghost use Rattle.register_state.specs.Deciding.{reply_or};
@@ -62,7 +62,7 @@ impl Register {
     /// A register without entries.
     pub fn new(alloc: Global, limits: Limits) -> Result<Self, NoMemory>
         requires { AreLimits limits }
-        ensures { IfOk result (λ register. register ≡ opened limits) }
+        ensures { IfOk result (λ register. register ≡ new_office limits) }
     {
         let books = Books::new(alloc, limits)?;
         let shelf = Shelf::new(alloc)?;
@@ -103,7 +103,7 @@ impl Register {
     /// The cells of these keys and, for each record among them, those of the walks from it (`Table::fetch`), at most
     /// 50,000 in all. This project's profile.
     pub fn fetch(&self, keys: &[CellKey]) -> Result<Fetched, NoMemory>
-        ensures cells { IfOk result (λ fetched. HasJust (cells_in fetched)
+        ensures cells { IfOk result (λ fetched. HasJust (fetched_view fetched)
             (cells_of (after self.now.limits self.now.history))
             (take 50_000 (fetched_keys (cells_of (after self.now.limits self.now.history)) keys.now))) }
         ensures legal { Legal self.now }
@@ -120,7 +120,7 @@ impl Register {
         request: &Request,
         moment: Moment,
     ) -> Result<Reply, KeepFault>
-        requires numbered { IsNumbered request.now }
+        requires numbered { HasNumberInRange request.now }
         requires kept { Keeps (K.tables keeper.old) self.old }
         ensures step { Step self.old request.now moment (reply_or result) self.new }
         ensures legal { Legal self.new }
@@ -198,9 +198,9 @@ impl Register {
         moment: Moment,
         stored: &KeptEntry,
     ) -> Result<Option<Decision>, NoMemory>
-        requires numbered { IsNumbered request.now }
+        requires numbered { HasNumberInRange request.now }
         requires moment { moment ≡ stored.now.moment }
-        requires follows { IsTrue (may_follow self.old.history stored.now.rules) }
+        requires follows { IsTrue (rules_may_follow self.old.history stored.now.rules) }
         ensures replays { IfOk result (ReplaysRequest self.old request.now stored.now self.new) }
         ensures stays { OnErr result (self.new ≡ self.old) }
     {

@@ -25,7 +25,7 @@ use Rattle.lei_records.specs.Rows.{Row}
 use Rattle.register_table.specs.declared.counts.Counts.{Counts}
 use Rattle.register_table.specs.Counts.{AreCounts, AreStepped, CanRise}
 use Rattle.register_table.specs.Held.{Cell, Held, cell_key, no_rows, row_in, rows}
-use Rattle.register_table.specs.Undos.{row_of}
+use Rattle.register_table.specs.Undos.{row_in_item}
 use Rattle.register_table.proofs.RowsLemmas.{counted, few_rows, rows-empty}
 use Rattle.register_table.specs.Cells.{AreOwnCells, IsItemOf, IsOwnCell, cell_in, held_in, under_texts}
 
@@ -235,7 +235,7 @@ no_counts slots counts none records relations exceptions =
     let zero = sym (len-empty key_cmp Row) in
     subst (AreCounts counts) (sym is) (record { records = records ∙ zero; relations = relations ∙ zero; exceptions = exceptions ∙ zero })
 
-item_row : (item : Option Item) → is_some item ≡ is_some (option_map row_of item)
+item_row : (item : Option Item) → is_some item ≡ is_some (option_map row_in_item item)
 item_row None = refl
 item_row (Some item) = refl
 

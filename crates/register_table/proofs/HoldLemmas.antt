@@ -18,7 +18,7 @@ use Rattle.register_table.specs.declared.parts.Parts.{Parts}
 use Rattle.register_table.specs.Held.{Held}
 use Rattle.register_table.specs.Indexes.{HasNewEnd, HoldsNewKey, Marks, end_in_index, end_under, holder_in}
 use Rattle.register_table.proofs.IndexLemmas.{one_in}
-use Rattle.register_table.specs.Parts.{AreParts, AreUndoable, CanBeUndone, IsMarked, IsNoteOf, Stays, note_of, noted, taken}
+use Rattle.register_table.specs.Parts.{ArePartsOfTable, AreUndoable, CanBeUndone, IsMarked, MarksStay, NotesCell, all_marks, lei_marks, note_cell}
 use Rattle.register_table.proofs.NoteLemmas.{each-still}
 
 -- ---- each member of a list
@@ -35,23 +35,23 @@ all_each P (x ∷ xs) each = (each zero x (omega arith), all_each P xs (λ place
 -- ---- notes that may be there
 
 module _ {V : Type 0} (last : Option V) (items : V → List Note) (notes : List Note) where
-  pub all_last : (before after : Marks) (held : Held) → (IfSome last (λ v. notes ≡ items v)) → (last ≡ None → notes ≡ []) → Stays before after
-      → IfSome last (λ v. CanBeUndone before (items v) held) → AllByRecursion (IsNoteOf after) notes
+  pub all_last : (before after : Marks) (held : Held) → (IfSome last (λ v. notes ≡ items v)) → (last ≡ None → notes ≡ []) → MarksStay before after
+      → IfSome last (λ v. CanBeUndone before (items v) held) → AllByRecursion (NotesCell after) notes
   all_last before after held some none stays can = of last some none can
     where
-      of : (o : Option V) → IfSome o (λ v. notes ≡ items v) → (o ≡ None → notes ≡ []) → IfSome o (λ v. CanBeUndone before (items v) held) → AllByRecursion (IsNoteOf after) notes
-      of None some none can = subst (AllByRecursion (IsNoteOf after)) (sym (none refl)) tt
-      of (Some v) some none can = subst (AllByRecursion (IsNoteOf after)) (sym some) (each-still (items v) before after stays can.each)
+      of : (o : Option V) → IfSome o (λ v. notes ≡ items v) → (o ≡ None → notes ≡ []) → IfSome o (λ v. CanBeUndone before (items v) held) → AllByRecursion (NotesCell after) notes
+      of None some none can = subst (AllByRecursion (NotesCell after)) (sym (none refl)) tt
+      of (Some v) some none can = subst (AllByRecursion (NotesCell after)) (sym some) (each-still (items v) before after stays can.each)
 
-  pub can_again : (before after : Marks) (old new : Held) → (IfSome last (λ v. notes ≡ items v)) → AllByRecursion (IsNoteOf after) notes → new ≡ old
+  pub can_again : (before after : Marks) (old new : Held) → (IfSome last (λ v. notes ≡ items v)) → AllByRecursion (NotesCell after) notes → new ≡ old
       → IfSome last (λ v. CanBeUndone before (items v) old) → IfSome last (λ v. CanBeUndone after (items v) new)
   can_again before after old new some each same can = of last some can
     where
       of : (o : Option V) → IfSome o (λ v. notes ≡ items v) → IfSome o (λ v. CanBeUndone before (items v) old) → IfSome o (λ v. CanBeUndone after (items v) new)
       of None some can = tt
       of (Some v) some can = record {
-        each = subst (AllByRecursion (IsNoteOf after)) some each;
-        kept = subst (AreUndoable (map note_of (items v))) (sym same) can.kept;
+        each = subst (AllByRecursion (NotesCell after)) some each;
+        kept = subst (AreUndoable (map note_cell (items v))) (sym same) can.kept;
       }
 
 -- ---- under one key
@@ -68,7 +68,7 @@ module _ (parts : Parts) where
   -- ---- by authority and id
 
   -- a key of a record that the index has isn't new
-  pub has_place : (row : Row) → IsMarked (noted parts) (Some (Item.Record row)) → HoldsNewKey row parts.holders → ⊥
+  pub has_place : (row : Row) → IsMarked (all_marks parts) (Some (Item.Record row)) → HoldsNewKey row parts.holders → ⊥
   has_place row marked new = true≢false (sym (marked new.authority new.id new.held) ∙ ap is_some new.none)
 
   module _ (authority id : List ℕ) (row : Row) (own : (a i : List ℕ) → holds a i row ≡ (bytes_eq authority a && bytes_eq id i)) where
@@ -80,15 +80,15 @@ module _ (parts : Parts) where
         λ j. holder_in parts.holders (sym p j) (sym q j)
 
     -- the key has an LEI
-    pub key_taken : is_some (holder_in parts.holders authority id) ≡ true → IsMarked (taken parts) (Some (Item.Record row))
+    pub key_taken : is_some (holder_in parts.holders authority id) ≡ true → IsMarked (lei_marks parts) (Some (Item.Record row))
     key_taken some a i held = ap is_some (own_key a i held) ∙ some
 
-    module _ (are : AreParts parts) (newer : AuthorityKeyIndex) (none : holder_in parts.holders authority id ≡ None)
+    module _ (are : ArePartsOfTable parts) (newer : AuthorityKeyIndex) (none : holder_in parts.holders authority id ≡ None)
         (put : (a i : List ℕ) → holder_in newer a i ≡ cond (holds a i row) (Some (lei_in row)) (holder_in parts.holders a i)) where
       abbrev after : Parts
       after = record parts { holders = newer }
 
-      pub held_key : AreParts after
+      pub held_key : ArePartsOfTable after
       held_key = record {
         kept = are.kept;
         indexes = record {
@@ -99,19 +99,19 @@ module _ (parts : Parts) where
         };
       }
 
-      pub held_key_taken : Stays (taken parts) (taken after)
+      pub held_key_taken : MarksStay (lei_marks parts) (lei_marks after)
       held_key_taken = record {
         by_key = λ a i is. ap is_some (put a i) ∙ some_still (holds a i row) (lei_in row) (holder_in parts.holders a i) is;
         by_start = λ s kind is. is;
       }
 
-      pub held_key_marked : IsMarked (taken after) (Some (Item.Record row))
+      pub held_key_marked : IsMarked (lei_marks after) (Some (Item.Record row))
       held_key_marked a i held = ap is_some (put a i ∙ ap (λ b. cond b (Some (lei_in row)) (holder_in parts.holders a i)) held)
 
   -- ---- by start and type
 
   -- a start and a type that the index has aren't new
-  pub has_start : (row : Row) → IsMarked (noted parts) (Some (Item.Relation row)) → HasNewEnd row parts.ends → ⊥
+  pub has_start : (row : Row) → IsMarked (all_marks parts) (Some (Item.Relation row)) → HasNewEnd row parts.ends → ⊥
   has_start row marked new = true≢false (sym (marked new.start new.kind new.active) ∙ ap is_some new.none)
 
   module _ (start : List ℕ) (kind : RelationType) (row : Row) (own : (s : List ℕ) (k : RelationType) → is_active_of s k row ≡ (bytes_eq start s && is_same_type kind k)) where
@@ -123,15 +123,15 @@ module _ (parts : Parts) where
         λ j. one_in (end_under parts.ends.map (sym p j) (sym q j))
 
     -- the start and the type have an end
-    pub start_taken : is_some (end_in_index parts.ends start kind) ≡ true → IsMarked (taken parts) (Some (Item.Relation row))
+    pub start_taken : is_some (end_in_index parts.ends start kind) ≡ true → IsMarked (lei_marks parts) (Some (Item.Relation row))
     start_taken some s k active = ap is_some (own_start s k active) ∙ some
 
-    module _ (are : AreParts parts) (later : Ends) (none : end_in_index parts.ends start kind ≡ None)
+    module _ (are : ArePartsOfTable parts) (later : Ends) (none : end_in_index parts.ends start kind ≡ None)
         (put : (s : List ℕ) (k : RelationType) → end_in_index later s k ≡ cond (is_active_of s k row) (Some (end_in row)) (end_in_index parts.ends s k)) where
       abbrev behind : Parts
       behind = record parts { ends = later }
 
-      pub held_start : AreParts behind
+      pub held_start : ArePartsOfTable behind
       held_start = record {
         kept = are.kept;
         indexes = record {
@@ -142,11 +142,11 @@ module _ (parts : Parts) where
         };
       }
 
-      pub held_start_taken : Stays (taken parts) (taken behind)
+      pub held_start_taken : MarksStay (lei_marks parts) (lei_marks behind)
       held_start_taken = record {
         by_key = λ a i is. is;
         by_start = λ s k is. ap is_some (put s k) ∙ some_still (is_active_of s k row) (end_in row) (end_in_index parts.ends s k) is;
       }
 
-      pub held_start_marked : IsMarked (taken behind) (Some (Item.Relation row))
+      pub held_start_marked : IsMarked (lei_marks behind) (Some (Item.Relation row))
       held_start_marked s k active = ap is_some (put s k ∙ ap (λ b. cond b (Some (end_in row)) (end_in_index parts.ends s k)) active)

@@ -17,7 +17,7 @@ use Rattle.lei_records.specs.Cells.{holds, lei_in}
 use Rattle.lei_records.specs.Relations.{end_in, is_active, is_active_of, is_same_type, kind_in, start_in}
 use Rattle.lei_records.specs.Rows.{Row}
 use Rattle.authority_rules.proofs.HolderLemmas.{both_true, bytes_itself, bytes_same, some_apart}
-use Rattle.register_table.specs.Indexes.{dropped, end_under, freed}
+use Rattle.register_table.specs.Indexes.{after_dropping, after_freeing, end_under}
 
 alike : {X : Type 0} (b : Bool) (o : X) → cond b o o ≡ o
 alike true o = refl
@@ -104,40 +104,40 @@ Noted = Option (Option (List ℕ))
 abbrev pub one_in : Noted → Option (List ℕ)
 one_in = option_and_then (λ noted. noted)
 
-pub freed_there : (o : Noted) (x : Option (List ℕ)) → o ≡ Some x → freed o ≡ Some None
-freed_there o x is = ap freed is
+pub freed_there : (o : Noted) (x : Option (List ℕ)) → o ≡ Some x → after_freeing o ≡ Some None
+freed_there o x is = ap after_freeing is
 
 -- a key that the index has is freed
-pub freed_when : (b : Bool) (o : Noted) (x : Option (List ℕ)) → (b ≡ true → o ≡ Some x) → cond b (Some None) o ≡ cond b (freed o) o
+pub freed_when : (b : Bool) (o : Noted) (x : Option (List ℕ)) → (b ≡ true → o ≡ Some x) → cond b (Some None) o ≡ cond b (after_freeing o) o
 freed_when true o x is = sym (freed_there o x (is refl))
 freed_when false o x is = refl
 
-pub dropped_none : (o : Noted) → one_in o ≡ None → dropped o ≡ None
+pub dropped_none : (o : Noted) → one_in o ≡ None → after_dropping o ≡ None
 dropped_none None is = refl
 dropped_none (Some None) is = refl
 dropped_none (Some (Some lei)) is = absurd (some_apart lei is)
 
 -- a key without an LEI is dropped
-pub dropped_when : (b : Bool) (o : Noted) → (b ≡ true → one_in o ≡ None) → cond b None o ≡ cond b (dropped o) o
+pub dropped_when : (b : Bool) (o : Noted) → (b ≡ true → one_in o ≡ None) → cond b None o ≡ cond b (after_dropping o) o
 dropped_when true o none = sym (dropped_none o (none refl))
 dropped_when false o none = refl
 
-pub dropped_some : (o : Noted) (lei : List ℕ) → one_in o ≡ Some lei → dropped o ≡ o
+pub dropped_some : (o : Noted) (lei : List ℕ) → one_in o ≡ Some lei → after_dropping o ≡ o
 dropped_some None lei is = refl
 dropped_some (Some None) lei is = absurd (some_apart lei (sym is))
 dropped_some (Some (Some other)) lei is = refl
 
 -- an LEI under the key is still there
-pub dropped_one : (o : Noted) → one_in (dropped o) ≡ one_in o
+pub dropped_one : (o : Noted) → one_in (after_dropping o) ≡ one_in o
 dropped_one None = refl
 dropped_one (Some None) = refl
 dropped_one (Some (Some lei)) = refl
 
-pub freed_one : (o : Noted) → one_in (freed o) ≡ None
+pub freed_one : (o : Noted) → one_in (after_freeing o) ≡ None
 freed_one None = refl
 freed_one (Some x) = refl
 
-pub freed_stays : (o : Noted) → is_some o ≡ true → is_some (freed o) ≡ true
+pub freed_stays : (o : Noted) → is_some o ≡ true → is_some (after_freeing o) ≡ true
 freed_stays None is = is
 freed_stays (Some x) is = refl
 

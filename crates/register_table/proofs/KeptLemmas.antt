@@ -7,19 +7,19 @@ use Rattle.lei_shapes.specs.declared.lists.RelationType.{RelationType}
 use Rattle.lei_records.specs.declared.item.Item.{Item}
 use Rattle.lei_records.specs.declared.view.RowKey.{RowKey}
 use Rattle.lei_records.specs.Rows.{Row}
-use Rattle.lei_records.specs.Tables.{KeyTexts, key_cmp, record_key, record_count, IsSound}
+use Rattle.lei_records.specs.Tables.{KeyTexts, key_cmp, record_key, record_count, IsSoundTable}
 use Rattle.authority_rules.proofs.HolderLemmas.{keys_total, some_apart}
 use Rattle.register_table.specs.declared.parts.Parts.{Parts}
-use Rattle.register_table.specs.Held.{Cell, Held, IsKept, cell_key, no_rows, rows}
+use Rattle.register_table.specs.Held.{CanBeKept, Cell, Held, cell_key, no_rows, rows}
 use Rattle.register_table.specs.Indexes.{end_in_index, holder_in}
-use Rattle.register_table.specs.Parts.{AreIndexes, AreParts}
-use Rattle.register_table.specs.Undos.{IsLater, WriteList, cell_of, touch, touch_all}
+use Rattle.register_table.specs.Parts.{AreIndexes, ArePartsOfTable}
+use Rattle.register_table.specs.Undos.{IsLater, WriteList, cell_with, touch, touch_all}
 use Rattle.register_table.proofs.RowsLemmas.{rows-empty}
 
 nothing : {P : Type 0} (key : KeyTexts) (row : Row) → get (empty {R = key_cmp}) key ≡ Some row → P
 nothing key row at = absurd (some_apart row (sym at ∙ get-empty key_cmp key))
 
-none_sound : IsSound no_rows
+none_sound : IsSoundTable no_rows
 none_sound = record {
   keyed = λ key row at. nothing key row at;
   holders = λ authority id a b first second at_a at_b holds_a holds_b. nothing (record_key a) first at_a;
@@ -34,7 +34,7 @@ none_sound = record {
 none_counted : record_count no_rows ≤ 4294967295
 none_counted = subst (λ n. n ≤ 4294967295) (sym (len-empty key_cmp Row)) (search rules)
 
-none_kept : IsKept no_rows
+none_kept : CanBeKept no_rows
 none_kept = record { sound = none_sound; count = none_counted }
 
 none_indexed : (holders : List ℕ → List ℕ → Option (List ℕ)) (ends : List ℕ → RelationType → Option (List ℕ)) → AreIndexes no_rows holders ends
@@ -43,10 +43,10 @@ none_indexed holders ends = record {
   by_start = λ s kind key row at active. nothing key row at;
 }
 
-pub no_parts : (parts : Parts) → parts.cells ≡ empty → AreParts parts
+pub no_parts : (parts : Parts) → parts.cells ≡ empty → ArePartsOfTable parts
 no_parts parts none =
     let is : rows parts.cells ≡ no_rows = ap rows none ∙ rows-empty in
-    record { kept = subst IsKept (sym is) none_kept; indexes = subst (λ t. AreIndexes t (holder_in parts.holders) (end_in_index parts.ends)) (sym is) (none_indexed (holder_in parts.holders) (end_in_index parts.ends)) }
+    record { kept = subst CanBeKept (sym is) none_kept; indexes = subst (λ t. AreIndexes t (holder_in parts.holders) (end_in_index parts.ends)) (sym is) (none_indexed (holder_in parts.holders) (end_in_index parts.ends)) }
 
 pub no_rows_of : (parts : Parts) → parts.cells ≡ empty → rows parts.cells ≡ no_rows
 no_rows_of parts none = ap rows none ∙ rows-empty
@@ -62,8 +62,8 @@ at_put false new old cell P at here there = there at
 
 later_touch : (entry n : ℕ) (held : Held) (write : RowKey × Option Item) → IsLater n held → entry < n → IsLater n (touch entry held write)
 later_touch entry n held write later less key cell at =
-    at_put (eq_by_cmp key_cmp key (cell_key write.0)) (cell_of entry write.1) (get held key) cell (cell.entry < n)
-    (sym (get-insert keys_total held (cell_key write.0) (cell_of entry write.1) key) ∙ at)
+    at_put (eq_by_cmp key_cmp key (cell_key write.0)) (cell_with entry write.1) (get held key) cell (cell.entry < n)
+    (sym (get-insert keys_total held (cell_key write.0) (cell_with entry write.1) key) ∙ at)
     (λ same. subst (λ c. c.entry < n) same less) (λ there. later key cell there)
 
 pub later_all : (entry n : ℕ) (writes : WriteList) (held : Held) → IsLater n held → entry < n → IsLater n (touch_all entry writes held)

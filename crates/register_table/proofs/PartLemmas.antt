@@ -10,14 +10,14 @@ use Rattle.lei_records.specs.declared.view.RowKey.{RowKey}
 use Rattle.lei_records.specs.Cells.{holds, lei_in}
 use Rattle.lei_records.specs.Relations.{end_in, is_active_of}
 use Rattle.lei_records.specs.Rows.{Row}
-use Rattle.lei_records.specs.Tables.{KeyTexts, Rows, Table, key_cmp, record_key, relation_key, relation_key_in, row_key, IsSound}
+use Rattle.lei_records.specs.Tables.{KeyTexts, Rows, Table, key_cmp, record_key, relation_key, relation_key_in, row_key, IsSoundTable}
 use Rattle.authority_rules.proofs.HolderLemmas.{keys_total, same_key, same_lei}
 use Rattle.authority_rules.proofs.KeyLemmas.{key_itself}
 use Rattle.authority_rules.proofs.UnderKeys.{inserted, removed}
 use Rattle.register_table.specs.Cells.{IsItemOf}
-use Rattle.register_table.specs.Held.{Cell, Held, IsKept, cell_key, rows}
+use Rattle.register_table.specs.Held.{CanBeKept, Cell, Held, cell_key, rows}
 use Rattle.register_table.specs.Parts.{AreIndexes, end_after, holder_after}
-use Rattle.register_table.specs.Undos.{cell_of}
+use Rattle.register_table.specs.Undos.{cell_with}
 use Rattle.register_table.proofs.RowsLemmas.{row_under, rows-with_cell}
 
 -- ---- one index over rows
@@ -79,7 +79,7 @@ holds_pair c = holds c.0 c.1
 abbrev active_pair : List ℕ × RelationType → Row → Bool
 active_pair c = is_active_of c.0 c.1
 
-only_holder : (table : Table) → IsSound table → (c : List ℕ × List ℕ) (a b : KeyTexts) (x y : Row) → get table.records a ≡ Some x → get table.records b ≡ Some y
+only_holder : (table : Table) → IsSoundTable table → (c : List ℕ × List ℕ) (a b : KeyTexts) (x y : Row) → get table.records a ≡ Some x → get table.records b ≡ Some y
     → holds_pair c x ≡ true → holds_pair c y ≡ true → a ≡ b
 only_holder table sound c a b x y at_a at_b passes_a passes_b =
     let own_a : a ≡ record_key (lei_in x) = sound.keyed a x at_a in
@@ -88,7 +88,7 @@ only_holder table sound c a b x y at_a at_b passes_a passes_b =
     let there_b : get table.records (record_key (lei_in y)) ≡ Some y = ap (get table.records) (sym own_b) ∙ at_b in
     own_a ∙ (ap record_key (sound.holders c.0 c.1 (lei_in x) (lei_in y) x y there_a there_b passes_a passes_b) ∙ sym own_b)
 
-only_active : (table : Table) → IsSound table → (c : List ℕ × RelationType) (a b : KeyTexts) (x y : Row) → get table.relations a ≡ Some x → get table.relations b ≡ Some y
+only_active : (table : Table) → IsSoundTable table → (c : List ℕ × RelationType) (a b : KeyTexts) (x y : Row) → get table.relations a ≡ Some x → get table.relations b ≡ Some y
     → active_pair c x ≡ true → active_pair c y ≡ true → a ≡ b
 only_active table sound c a b x y at_a at_b passes_a passes_b = sound.actives c.0 c.1 a b x y at_a at_b passes_a passes_b
 
@@ -105,7 +105,7 @@ pub record Both (before after : Table) (holders : Holding) (ends : Ending) : Typ
   pub still : AreIndexes before holders ends
   pub behind : AreIndexes after holders ends
 
-module _ (table : Table) (holders newer : Holding) (ends later : Ending) (sound : IsSound table) (indexes : AreIndexes table holders ends) where
+module _ (table : Table) (holders newer : Holding) (ends later : Ending) (sound : IsSoundTable table) (indexes : AreIndexes table holders ends) where
   module _ (same_holders : (a i : List ℕ) → newer a i ≡ holders a i) (same_ends : (s : List ℕ) (kind : RelationType) → later s kind ≡ ends s kind) where
     pub same_indexes : AreIndexes table newer later
     same_indexes = record {
@@ -129,7 +129,7 @@ module _ (table : Table) (holders newer : Holding) (ends later : Ending) (sound 
     }
 
   module _ (row : Row) where
-    put_record : IsSound (row_under table (RowKey.Rec (lei_in row)) (Some row)) → ((a i : List ℕ) → newer a i ≡ cond (holds a i row) (Some (lei_in row)) (holders a i))
+    put_record : IsSoundTable (row_under table (RowKey.Rec (lei_in row)) (Some row)) → ((a i : List ℕ) → newer a i ≡ cond (holds a i row) (Some (lei_in row)) (holders a i))
         → ((s : List ℕ) (kind : RelationType) → later s kind ≡ ends s kind) → Both table (row_under table (RowKey.Rec (lei_in row)) (Some row)) newer later
     put_record behind noted same_ends =
         let k = record_key (lei_in row) in
@@ -148,7 +148,7 @@ module _ (table : Table) (holders newer : Holding) (ends later : Ending) (sound 
           };
         }
 
-    put_relation : IsSound (row_under table (row_key (Item.Relation row)) (Some row)) → ((a i : List ℕ) → newer a i ≡ holders a i)
+    put_relation : IsSoundTable (row_under table (row_key (Item.Relation row)) (Some row)) → ((a i : List ℕ) → newer a i ≡ holders a i)
         → ((s : List ℕ) (kind : RelationType) → later s kind ≡ cond (is_active_of s kind row) (Some (end_in row)) (ends s kind))
         → Both table (row_under table (row_key (Item.Relation row)) (Some row)) newer later
     put_relation behind same_holders noted =
@@ -170,28 +170,28 @@ module _ (table : Table) (holders newer : Holding) (ends later : Ending) (sound 
 
 -- ---- the same for cells
 
-module _ (held : Held) (holders newer : Holding) (ends later : Ending) (kept : IsKept (rows held)) (indexes : AreIndexes (rows held) holders ends) where
+module _ (held : Held) (holders newer : Holding) (ends later : Ending) (kept : CanBeKept (rows held)) (indexes : AreIndexes (rows held) holders ends) where
   under : (key own : RowKey) (new : Cell) → cell_key key ≡ cell_key own → rows (insert held (cell_key key) new) ≡ row_under (rows held) own new.row
   under key own new same = ap (λ k. rows (insert held k new)) same ∙ rows-with_cell held own (Some new)
 
   module _ (key : RowKey) (entry : ℕ) where
-    pub both_put : (item : Option Item) → IsItemOf key item → IsKept (rows (insert held (cell_key key) (cell_of entry item)))
+    pub both_put : (item : Option Item) → IsItemOf key item → CanBeKept (rows (insert held (cell_key key) (cell_with entry item)))
         → ((a i : List ℕ) → newer a i ≡ holder_after item holders a i) → ((s : List ℕ) (kind : RelationType) → later s kind ≡ end_after item ends s kind)
-        → Both (rows held) (rows (insert held (cell_key key) (cell_of entry item))) newer later
+        → Both (rows held) (rows (insert held (cell_key key) (cell_with entry item))) newer later
     both_put None own behind noted ended = record {
       still = same_indexes (rows held) holders newer ends later kept.sound indexes noted ended;
-      behind = subst (λ t. AreIndexes t newer later) (sym (under key key (cell_of entry None) refl)) (same_without (rows held) holders newer ends later kept.sound indexes noted ended key);
+      behind = subst (λ t. AreIndexes t newer later) (sym (under key key (cell_with entry None) refl)) (same_without (rows held) holders newer ends later kept.sound indexes noted ended key);
     }
     both_put (Some (Item.Record row)) own behind noted ended =
-        let is = under key (RowKey.Rec (lei_in row)) (cell_of entry (Some (Item.Record row))) own in
+        let is = under key (RowKey.Rec (lei_in row)) (cell_with entry (Some (Item.Record row))) own in
         subst (λ t. Both (rows held) t newer later) (sym is)
-        (put_record (rows held) holders newer ends later kept.sound indexes row (subst IsSound is behind.sound) noted ended)
+        (put_record (rows held) holders newer ends later kept.sound indexes row (subst IsSoundTable is behind.sound) noted ended)
     both_put (Some (Item.Relation row)) own behind noted ended =
-        let is = under key (row_key (Item.Relation row)) (cell_of entry (Some (Item.Relation row))) own in
+        let is = under key (row_key (Item.Relation row)) (cell_with entry (Some (Item.Relation row))) own in
         subst (λ t. Both (rows held) t newer later) (sym is)
-        (put_relation (rows held) holders newer ends later kept.sound indexes row (subst IsSound is behind.sound) noted ended)
+        (put_relation (rows held) holders newer ends later kept.sound indexes row (subst IsSoundTable is behind.sound) noted ended)
     both_put (Some (Item.Exception item)) own behind noted ended =
-        let is = under key (row_key (Item.Exception item)) (cell_of entry (Some (Item.Exception item))) own in
+        let is = under key (row_key (Item.Exception item)) (cell_with entry (Some (Item.Exception item))) own in
         let same = same_indexes (rows held) holders newer ends later kept.sound indexes noted ended in
         subst (λ t. Both (rows held) t newer later) (sym is)
         (record { still = same; behind = record { by_key = same.by_key; by_start = same.by_start } })
@@ -203,9 +203,9 @@ module _ (held : Held) (holders newer : Holding) (ends later : Ending) (kept : I
 
 -- the cells can be kept and the indexes are theirs, whether a cell was put or not
 pub parts_put : {X E : Type 0} (result : Result X E) (old new : Held) (holders : Holding) (ends : Ending) (key : KeyTexts) (cell : Cell)
-    → OnOk result (new ≡ insert old key cell) → OnErr result (new ≡ old) → IsKept (rows old) → IsKept (rows (insert old key cell))
-    → Both (rows old) (rows (insert old key cell)) holders ends → IsKept (rows new) × AreIndexes (rows new) holders ends
+    → OnOk result (new ≡ insert old key cell) → OnErr result (new ≡ old) → CanBeKept (rows old) → CanBeKept (rows (insert old key cell))
+    → Both (rows old) (rows (insert old key cell)) holders ends → CanBeKept (rows new) × AreIndexes (rows new) holders ends
 parts_put (Ok x) old new holders ends key cell put same kept behind both =
-    subst (λ held. IsKept (rows held) × AreIndexes (rows held) holders ends) (sym put) (behind, both.behind)
+    subst (λ held. CanBeKept (rows held) × AreIndexes (rows held) holders ends) (sym put) (behind, both.behind)
 parts_put (Err e) old new holders ends key cell put same kept behind both =
-    subst (λ held. IsKept (rows held) × AreIndexes (rows held) holders ends) (sym same) (kept, both.still)
+    subst (λ held. CanBeKept (rows held) × AreIndexes (rows held) holders ends) (sym same) (kept, both.still)

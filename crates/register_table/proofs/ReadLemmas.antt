@@ -12,14 +12,14 @@ use Rattle.lei_records.specs.declared.view.RowKey.{RowKey}
 use Rattle.lei_records.specs.Cells.{holds, lei_in}
 use Rattle.lei_records.specs.Relations.{end_in, is_active, is_active_of, kind_in, start_in}
 use Rattle.lei_records.specs.Rows.{Row}
-use Rattle.lei_records.specs.Tables.{KeyTexts, Table, active_of, exception_key, has_exception, holder_of, record_key, relation_key, relation_key_in, relation_row, row_at, IsSound}
+use Rattle.lei_records.specs.Tables.{KeyTexts, Table, active_of, exception_key, has_exception, holder_of, record_key, relation_key, relation_key_in, relation_row, row_at, IsSoundTable}
 use Rattle.authority_rules.proofs.HolderLemmas.{both_true, bytes_itself, bytes_same, first_true, second_true, some_apart}
 use Rattle.authority_rules.proofs.UnderKeys.{none_found, only_found}
 use Rattle.register_table.specs.Cells.{IsItemOf}
 use Rattle.register_table.specs.Held.{Held, cell_key, record_kind, relation_kind, row_in, rows}
 use Rattle.register_table.specs.Parts.{AreIndexes}
 use Rattle.register_table.specs.Reading.{is_active_row, record_row, relation_row_in, row_holds}
-use Rattle.register_table.specs.Undos.{cell_of, row_of}
+use Rattle.register_table.specs.Undos.{cell_with, row_in_item}
 use Rattle.register_table.proofs.RowsLemmas.{exception_at, record_at, relation_at}
 
 -- ---- the row of a cell
@@ -33,7 +33,7 @@ apart : (kind : List ℕ) (a b : KeyTexts) → a ≡ b → bytes_eq kind (first_
 apart kind a b same here there = true≢false (sym here ∙ (ap (λ k. bytes_eq kind (first_text k)) same ∙ there))
 
 module _ (held : Held) (entry : ℕ) where
-  pub record_held : (lei : List ℕ) (item : Option Item) → get held (cell_key (RowKey.Rec lei)) ≡ Some (cell_of entry item) → IsItemOf (RowKey.Rec lei) item
+  pub record_held : (lei : List ℕ) (item : Option Item) → get held (cell_key (RowKey.Rec lei)) ≡ Some (cell_with entry item) → IsItemOf (RowKey.Rec lei) item
       → record_row item ≡ row_at (rows held) lei
   unfolding first_text
   record_held lei None at own = sym (record_at held (record_key lei) ∙ ap row_in at)
@@ -41,7 +41,7 @@ module _ (held : Held) (entry : ℕ) where
   record_held lei (Some (Item.Relation row)) at own = absurd (apart record_kind _ _ own refl refl)
   record_held lei (Some (Item.Exception item)) at own = absurd (apart record_kind _ _ own refl refl)
 
-  pub relation_held : (start : List ℕ) (kind : RelationType) (end : List ℕ) (item : Option Item) → get held (cell_key (RowKey.Rel start kind end)) ≡ Some (cell_of entry item)
+  pub relation_held : (start : List ℕ) (kind : RelationType) (end : List ℕ) (item : Option Item) → get held (cell_key (RowKey.Rel start kind end)) ≡ Some (cell_with entry item)
       → IsItemOf (RowKey.Rel start kind end) item → relation_row_in item ≡ relation_row (rows held) start kind end
   unfolding first_text
   relation_held start kind end None at own = sym (relation_at held (relation_key start kind end) ∙ ap row_in at)
@@ -49,11 +49,11 @@ module _ (held : Held) (entry : ℕ) where
   relation_held start kind end (Some (Item.Record row)) at own = absurd (apart relation_kind _ _ own refl refl)
   relation_held start kind end (Some (Item.Exception item)) at own = absurd (apart relation_kind _ _ own refl refl)
 
-  item_row : (item : Option Item) → is_some item ≡ is_some (option_map row_of item)
+  item_row : (item : Option Item) → is_some item ≡ is_some (option_map row_in_item item)
   item_row None = refl
   item_row (Some item) = refl
 
-  pub exception_held : (lei : List ℕ) (category : ExceptionCategory) (item : Option Item) → get held (cell_key (RowKey.Exc lei category)) ≡ Some (cell_of entry item)
+  pub exception_held : (lei : List ℕ) (category : ExceptionCategory) (item : Option Item) → get held (cell_key (RowKey.Exc lei category)) ≡ Some (cell_with entry item)
       → is_some item ≡ has_exception (rows held) lei category
   exception_held lei category item at = item_row item ∙ sym (ap is_some (exception_at held (exception_key lei category) ∙ ap row_in at))
 
@@ -69,7 +69,7 @@ module _ (held : Held) where
 
 -- ---- by the indexes
 
-module _ (table : Table) (sound : IsSound table) (holders : List ℕ → List ℕ → Option (List ℕ)) (ends : List ℕ → RelationType → Option (List ℕ)) (indexes : AreIndexes table holders ends) where
+module _ (table : Table) (sound : IsSoundTable table) (holders : List ℕ → List ℕ → Option (List ℕ)) (ends : List ℕ → RelationType → Option (List ℕ)) (indexes : AreIndexes table holders ends) where
   module _ (a i : List ℕ) where
     none_holds : ((key : KeyTexts) (row : Row) → get table.records key ≡ Some row → holds a i row ≡ true → ⊥) → None ≡ holder_of table a i
     none_holds never = sym (ap (option_map lei_in) (none_found table.records (holds a i) never))

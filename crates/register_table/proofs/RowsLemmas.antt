@@ -16,8 +16,8 @@ use Rattle.authority_rules.proofs.HolderLemmas.{bytes_itself, keys_total, same_k
 use Rattle.authority_rules.proofs.KeyLemmas.{key_itself, keys_antisymmetric}
 use Rattle.register_table.specs.Held.{Cell, Held, cell_key, exception_kind, record_kind, relation_kind, no_rows, row_in, rows, rows_of, with_cell_of, with_under}
 use Rattle.register_table.specs.declared.counts.Counts.{Counts}
-use Rattle.register_table.specs.Counts.{AreCounts, AreStepped, step}
-use Rattle.register_table.specs.Undos.{AreOwn, IsOwn, WriteList, is_withdrawal, row_of, touch, touch_all, with_cell}
+use Rattle.register_table.specs.Counts.{AreCounts, AreStepped, count_step}
+use Rattle.register_table.specs.Undos.{AreOwn, IsOwn, WriteList, cells_with, is_withdrawal, row_in_item, touch, touch_all}
 
 -- ---- maps with something under a key, or with nothing
 
@@ -25,7 +25,7 @@ pub get-with_under : (m : Rows) (k : KeyTexts) (new : Option Row) (q : KeyTexts)
 get-with_under m k None q = get-remove keys_total m k q
 get-with_under m k (Some row) q = get-insert keys_total m k row q
 
-pub get-with_cell : (m : Held) (k : KeyTexts) (new : Option Cell) (q : KeyTexts) → get (with_cell m k new) q ≡ cond (eq_by_cmp key_cmp q k) new (get m q)
+pub get-with_cell : (m : Held) (k : KeyTexts) (new : Option Cell) (q : KeyTexts) → get (cells_with m k new) q ≡ cond (eq_by_cmp key_cmp q k) new (get m q)
 get-with_cell m k None q = get-remove keys_total m k q
 get-with_cell m k (Some cell) q = get-insert keys_total m k cell q
 
@@ -38,9 +38,9 @@ back_at true held new at is = sym (is refl)
 back_at false held new at is = refl
 
 -- what was held is put back
-pub cell_again : (m : Held) (k : KeyTexts) (new held : Option Cell) → get m k ≡ held → with_cell (with_cell m k new) k held ≡ m
-cell_again m k new held is = same_map keys_total keys_antisymmetric (with_cell (with_cell m k new) k held) m
-    (λ q. get-with_cell (with_cell m k new) k held q ∙ (ap (cond (eq_by_cmp key_cmp q k) held) (get-with_cell m k new q)
+pub cell_again : (m : Held) (k : KeyTexts) (new held : Option Cell) → get m k ≡ held → cells_with (cells_with m k new) k held ≡ m
+cell_again m k new held is = same_map keys_total keys_antisymmetric (cells_with (cells_with m k new) k held) m
+    (λ q. get-with_cell (cells_with m k new) k held q ∙ (ap (cond (eq_by_cmp key_cmp q k) held) (get-with_cell m k new q)
     ∙ back_at (eq_by_cmp key_cmp q k) held new (get m q) (λ t. ap (get m) (same_key q k t) ∙ is)))
 
 -- ---- the rows of a kind
@@ -92,30 +92,30 @@ row_under table (RowKey.Rel start kind end) row = with_relations table (with_und
 row_under table (RowKey.Exc lei category) row = with_exceptions table (with_under table.exceptions (exception_key lei category) row)
 
 behind : (kind first : List ℕ) (held : Held) (key : KeyTexts) (new : Option Cell) (q : KeyTexts)
-    → row_in (get (with_cell held (first ∷ key) new) (kind ∷ q)) ≡ cond (bytes_eq first kind && eq_by_cmp key_cmp q key) (row_in new) (row_in (get held (kind ∷ q)))
+    → row_in (get (cells_with held (first ∷ key) new) (kind ∷ q)) ≡ cond (bytes_eq first kind && eq_by_cmp key_cmp q key) (row_in new) (row_in (get held (kind ∷ q)))
 behind kind first held key new q =
     ap row_in (get-with_cell held (first ∷ key) new (kind ∷ q))
     ∙ (row_in-cond (eq_by_cmp key_cmp (kind ∷ q) (first ∷ key)) new (get held (kind ∷ q))
     ∙ ap (λ b. cond b (row_in new) (row_in (get held (kind ∷ q)))) (more_texts kind first q key))
 
 module _ (kind : List ℕ) (held : Held) (key : KeyTexts) (new : Option Cell) where
-  own_kind : rows_of kind (entries (with_cell held (kind ∷ key) new)) ≡ with_under (rows_of kind (entries held)) key (row_in new)
+  own_kind : rows_of kind (entries (cells_with held (kind ∷ key) new)) ≡ with_under (rows_of kind (entries held)) key (row_in new)
   own_kind = same_map keys_total keys_antisymmetric _ _ (λ q.
-      at_kind kind (with_cell held (kind ∷ key) new) q
+      at_kind kind (cells_with held (kind ∷ key) new) q
       ∙ (behind kind kind held key new q
       ∙ (ap (λ b. cond (b && eq_by_cmp key_cmp q key) (row_in new) (row_in (get held (kind ∷ q)))) (bytes_itself kind)
       ∙ (ap (cond (eq_by_cmp key_cmp q key) (row_in new)) (sym (at_kind kind held q))
       ∙ sym (get-with_under (rows_of kind (entries held)) key (row_in new) q)))))
 
-  other_kind : (first : List ℕ) → bytes_eq first kind ≡ false → rows_of kind (entries (with_cell held (first ∷ key) new)) ≡ rows_of kind (entries held)
+  other_kind : (first : List ℕ) → bytes_eq first kind ≡ false → rows_of kind (entries (cells_with held (first ∷ key) new)) ≡ rows_of kind (entries held)
   other_kind first apart = same_map keys_total keys_antisymmetric _ _ (λ q.
-      at_kind kind (with_cell held (first ∷ key) new) q
+      at_kind kind (cells_with held (first ∷ key) new) q
       ∙ (behind kind first held key new q
       ∙ (ap (λ b. cond (b && eq_by_cmp key_cmp q key) (row_in new) (row_in (get held (kind ∷ q)))) apart
       ∙ sym (at_kind kind held q))))
 
 -- the rows after a cell was put or removed
-pub rows-with_cell : (held : Held) (key : RowKey) (new : Option Cell) → rows (with_cell held (cell_key key) new) ≡ row_under (rows held) key (row_in new)
+pub rows-with_cell : (held : Held) (key : RowKey) (new : Option Cell) → rows (cells_with held (cell_key key) new) ≡ row_under (rows held) key (row_in new)
 unfolding rows
 rows-with_cell held (RowKey.Rec lei) new = λ i. record {
   records = own_kind record_kind held (record_key lei) new i;
@@ -135,21 +135,21 @@ rows-with_cell held (RowKey.Exc lei category) new = λ i. record {
 
 -- ---- writes
 
-own_put : (table : Table) (item : Item) → is_withdrawal item ≡ false → put table item ≡ row_under table (row_key item) (Some (row_of item))
+own_put : (table : Table) (item : Item) → is_withdrawal item ≡ false → put table item ≡ row_under table (row_key item) (Some (row_in_item item))
 own_put table (Item.Record row) own = refl
 own_put table (Item.Relation row) own = refl
 own_put table (Item.Exception item) own =
     ap (λ b. with_exceptions table (cond b (remove table.exceptions (exception_key_in item.0)) (insert table.exceptions (exception_key_in item.0) item.0))) own
 
-write_under : (table : Table) (write : RowKey × Option Item) → IsOwn write → put_write table write ≡ row_under table write.0 (option_map row_of write.1)
-write_under table (key, Some item) own = own_put table item own.1 ∙ ap (λ k. row_under table k (Some (row_of item))) (sym own.0)
+write_under : (table : Table) (write : RowKey × Option Item) → IsOwn write → put_write table write ≡ row_under table write.0 (option_map row_in_item write.1)
+write_under table (key, Some item) own = own_put table item own.1 ∙ ap (λ k. row_under table k (Some (row_in_item item))) (sym own.0)
 write_under table (RowKey.Rec lei, None) own = absurd own
 write_under table (RowKey.Rel start kind end, None) own = absurd own
 write_under table (RowKey.Exc lei category, None) own = refl
 
 -- the rows of the cells after a write are the rows of the cells before it with the write put
 pub rows-touch : (entry : ℕ) (held : Held) (write : RowKey × Option Item) → IsOwn write → rows (touch entry held write) ≡ put_write (rows held) write
-rows-touch entry held write own = rows-with_cell held write.0 (Some (record { entry = entry; row = option_map row_of write.1 })) ∙ sym (write_under (rows held) write own)
+rows-touch entry held write own = rows-with_cell held write.0 (Some (record { entry = entry; row = option_map row_in_item write.1 })) ∙ sym (write_under (rows held) write own)
 
 pub rows-touch_all : (entry : ℕ) (writes : WriteList) (held : Held) → AreOwn writes → rows (touch_all entry writes held) ≡ put_all writes (rows held)
 rows-touch_all entry [] held own = refl
@@ -167,19 +167,19 @@ rows-empty = λ i. record { records = no_kind record_kind i; relations = no_kind
 
 -- ---- how many there are
 
-stepped_len : (b : Bool) (n : ℕ) → cond b n (n + 1) ≡ step b true n
+stepped_len : (b : Bool) (n : ℕ) → cond b n (n + 1) ≡ count_step b true n
 stepped_len true n = refl
 stepped_len false n = refl
 
-stepped_less : (b : Bool) (n : ℕ) → cond b (n - 1) n ≡ step b false n
+stepped_less : (b : Bool) (n : ℕ) → cond b (n - 1) n ≡ count_step b false n
 stepped_less true n = refl
 stepped_less false n = refl
 
-len-with_under : (m : Rows) (k : KeyTexts) (new : Option Row) → len (with_under m k new) ≡ step (contains_key m k) (is_some new) (len m)
+len-with_under : (m : Rows) (k : KeyTexts) (new : Option Row) → len (with_under m k new) ≡ count_step (contains_key m k) (is_some new) (len m)
 len-with_under m k None = len-remove keys_total m k ∙ stepped_less (contains_key m k) (len m)
 len-with_under m k (Some row) = len-insert keys_total m k row ∙ stepped_len (contains_key m k) (len m)
 
-at_most : (was is : Bool) (n : ℕ) → step was is n ≤ n + 1
+at_most : (was is : Bool) (n : ℕ) → count_step was is n ≤ n + 1
 at_most false true n = omega arith
 at_most true false n = omega arith
 at_most true true n = omega arith
@@ -212,21 +212,21 @@ few_rows held = record {
 
 -- the counts after a cell was put or removed
 pub counted : (held : Held) (key : RowKey) (new : Option Cell) (counts later : Counts) → AreCounts counts (rows held)
-    → AreStepped key (is_some (row_in (get held (cell_key key)))) (is_some (row_in new)) counts later → AreCounts later (rows (with_cell held (cell_key key) new))
+    → AreStepped key (is_some (row_in (get held (cell_key key)))) (is_some (row_in new)) counts later → AreCounts later (rows (cells_with held (cell_key key) new))
 counted held (RowKey.Rec lei) new counts later are stepped = subst (AreCounts later) (sym (rows-with_cell held (RowKey.Rec lei) new)) (record {
-  records = stepped.0 ∙ ((λ i. step (is_some (sym (record_at held (record_key lei)) i)) (is_some (row_in new)) (are.records i)) ∙ sym (len-with_under (rows held).records (record_key lei) (row_in new)));
+  records = stepped.0 ∙ ((λ i. count_step (is_some (sym (record_at held (record_key lei)) i)) (is_some (row_in new)) (are.records i)) ∙ sym (len-with_under (rows held).records (record_key lei) (row_in new)));
   relations = stepped.1.0 ∙ are.relations;
   exceptions = stepped.1.1 ∙ are.exceptions;
 })
 counted held (RowKey.Rel start kind end) new counts later are stepped = subst (AreCounts later) (sym (rows-with_cell held (RowKey.Rel start kind end) new)) (record {
   records = stepped.0 ∙ are.records;
-  relations = stepped.1.0 ∙ ((λ i. step (is_some (sym (relation_at held (relation_key start kind end)) i)) (is_some (row_in new)) (are.relations i))
+  relations = stepped.1.0 ∙ ((λ i. count_step (is_some (sym (relation_at held (relation_key start kind end)) i)) (is_some (row_in new)) (are.relations i))
       ∙ sym (len-with_under (rows held).relations (relation_key start kind end) (row_in new)));
   exceptions = stepped.1.1 ∙ are.exceptions;
 })
 counted held (RowKey.Exc lei category) new counts later are stepped = subst (AreCounts later) (sym (rows-with_cell held (RowKey.Exc lei category) new)) (record {
   records = stepped.0 ∙ are.records;
   relations = stepped.1.0 ∙ are.relations;
-  exceptions = stepped.1.1 ∙ ((λ i. step (is_some (sym (exception_at held (exception_key lei category)) i)) (is_some (row_in new)) (are.exceptions i))
+  exceptions = stepped.1.1 ∙ ((λ i. count_step (is_some (sym (exception_at held (exception_key lei category)) i)) (is_some (row_in new)) (are.exceptions i))
       ∙ sym (len-with_under (rows held).exceptions (exception_key lei category) (row_in new)));
 })

@@ -19,9 +19,9 @@ use Rattle.authority_rules.proofs.HolderLemmas.{keys_total, same_key, some_apart
 use Rattle.authority_rules.proofs.KeyLemmas.{key_itself, keys_antisymmetric}
 use Rattle.register_table.specs.declared.stamps.Stamp.{Stamp}
 use Rattle.register_table.specs.Held.{Cell, Held, cell_key}
-use Rattle.register_table.specs.Stamps.{AreInOrder, AreStamped, HasStamp, IsStampOf, NoneFrom}
+use Rattle.register_table.specs.Stamps.{AreStamped, HasStamp, IsStampOf, NoneFrom, StampsDontFall}
 use Rattle.register_table.specs.Touched.{is_touched, touched}
-use Rattle.register_table.specs.Undos.{IsLater, WriteList, cell_of, touch, touch_all}
+use Rattle.register_table.specs.Undos.{IsLater, WriteList, cell_with, touch, touch_all}
 
 pub by_order : (a b : ℕ) (P : Type 0) → (a < b → P) → (b ≤ a → P) → P
 by_order a b P less more = elim (ltb a b) as (λ t. ltb a b ≡ t → P) [
@@ -150,8 +150,8 @@ stamped_all stamps entry [] held stamped each = stamped
 stamped_all stamps entry (write ∷ writes) held stamped each =
     stamped_all stamps entry writes (touch entry held write)
     (λ key cell at.
-    at_touch (eq_by_cmp key_cmp key (cell_key write.0)) entry (cell_of entry write.1) (get held key) cell (λ c. HasStamp stamps c.entry key)
-    (sym (get-insert keys_total held (cell_key write.0) (cell_of entry write.1) key) ∙ at)
+    at_touch (eq_by_cmp key_cmp key (cell_key write.0)) entry (cell_with entry write.1) (get held key) cell (λ c. HasStamp stamps c.entry key)
+    (sym (get-insert keys_total held (cell_key write.0) (cell_with entry write.1) key) ∙ at)
     (λ same. subst (HasStamp stamps entry) (sym (same_key key (cell_key write.0) same)) (each 0 write (omega arith)))
     (λ there. stamped key cell there))
     (All-tail (λ w. HasStamp stamps entry (cell_key w.0)) write writes each)
@@ -365,5 +365,5 @@ none_held held key cell none at = some_apart cell (sym at ∙ (ap (λ h. get h k
 pub none_stamped : (stamps : List Stamp) (held : Held) → held ≡ empty → AreStamped stamps held
 none_stamped stamps held none key cell at = absurd (none_held held key cell none at)
 
-pub none_in_order : (stamps : List Stamp) → stamps ≡ [] → AreInOrder stamps
+pub none_in_order : (stamps : List Stamp) → stamps ≡ [] → StampsDontFall stamps
 none_in_order stamps none = IsNonDecreasingBy-short (λ stamp. stamp.entry) stamps (subst (λ l. length l ≤ 1) (sym none) (omega arith))

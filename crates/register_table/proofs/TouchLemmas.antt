@@ -18,7 +18,7 @@ use Rattle.authority_rules.proofs.KeyLemmas.{keys_antisymmetric}
 use Rattle.register_table.specs.declared.slots.Slot.{Slot}
 use Rattle.register_table.specs.declared.keys.TextKey.{TextKey}
 use Rattle.register_table.specs.Held.{cell_key}
-use Rattle.register_table.specs.Cells.{AreOwnCells, IsOwnCell, cell_in, held_in, under_texts, unlent}
+use Rattle.register_table.specs.Cells.{AreOwnCells, IsOwnCell, cell_in, held_in, owned_slots, under_texts}
 use Rattle.register_table.proofs.CellLemmas.{held_in-insert, own-insert, text_cmp}
 
 both : (a b : Bool) → T a → T b → T (a && b)
@@ -46,26 +46,26 @@ entries-held_in slots sorted =
 
 -- ---- borrowed slots
 
-pub rising-unlent : (slots : List (TextKey × Bor Slot)) → IsStrictlySortedBy text_cmp (keys_of slots) → IsStrictlySortedBy text_cmp (keys_of (unlent slots))
+pub rising-unlent : (slots : List (TextKey × Bor Slot)) → IsStrictlySortedBy text_cmp (keys_of slots) → IsStrictlySortedBy text_cmp (keys_of (owned_slots slots))
 rising-unlent slots sorted = subst (IsStrictlySortedBy text_cmp) (sym (keys_of-map_values (λ slot. slot.now) slots)) sorted
 
-unlent-insert : (slots : List (TextKey × Bor Slot)) (k : TextKey) (slot : Bor Slot) → unlent (insert_entry text_cmp slots k slot) ≡ insert_entry text_cmp (unlent slots) k slot.now
-unlent-insert [] k slot = refl
-unlent-insert (e ∷ slots) k slot =
+owned_slots-insert : (slots : List (TextKey × Bor Slot)) (k : TextKey) (slot : Bor Slot) → owned_slots (insert_entry text_cmp slots k slot) ≡ insert_entry text_cmp (owned_slots slots) k slot.now
+owned_slots-insert [] k slot = refl
+owned_slots-insert (e ∷ slots) k slot =
     let first : TextKey × Slot = (e.0, e.1.now) in
-    elim (text_cmp k e.0) as (λ r. unlent (match_ordering r ((k, slot) ∷ e ∷ slots) ((e.0, slot) ∷ slots) (e ∷ insert_entry text_cmp slots k slot))
-    ≡ match_ordering r ((k, slot.now) ∷ first ∷ unlent slots) ((e.0, slot.now) ∷ unlent slots) (first ∷ insert_entry text_cmp (unlent slots) k slot.now)) [
+    elim (text_cmp k e.0) as (λ r. owned_slots (match_ordering r ((k, slot) ∷ e ∷ slots) ((e.0, slot) ∷ slots) (e ∷ insert_entry text_cmp slots k slot))
+    ≡ match_ordering r ((k, slot.now) ∷ first ∷ owned_slots slots) ((e.0, slot.now) ∷ owned_slots slots) (first ∷ insert_entry text_cmp (owned_slots slots) k slot.now)) [
       | Less ↦ refl
       | Equal ↦ refl
-      | Greater ↦ ap (λ rest. first ∷ rest) (unlent-insert slots k slot)
+      | Greater ↦ ap (λ rest. first ∷ rest) (owned_slots-insert slots k slot)
     ]
 
 module _ (old new : List (TextKey × Bor Slot)) (key : RowKey) (slot : Bor Slot) (made : new ≡ insert_entry text_cmp old (record { key = key }) slot) where
-  unlent-put : unlent new ≡ insert_entry text_cmp (unlent old) (record { key = key }) slot.now
-  unlent-put = ap unlent made ∙ unlent-insert old (record { key = key }) slot
+  unlent-put : owned_slots new ≡ insert_entry text_cmp (owned_slots old) (record { key = key }) slot.now
+  unlent-put = ap owned_slots made ∙ owned_slots-insert old (record { key = key }) slot
 
-  pub lent-cells : held_in (unlent new) ≡ insert (held_in (unlent old)) (cell_key key) (cell_in slot.now)
-  lent-cells = held_in-insert (held_in (unlent old)) (unlent old) (unlent new) key slot.now refl unlent-put
+  pub lent-cells : held_in (owned_slots new) ≡ insert (held_in (owned_slots old)) (cell_key key) (cell_in slot.now)
+  lent-cells = held_in-insert (held_in (owned_slots old)) (owned_slots old) (owned_slots new) key slot.now refl unlent-put
 
-  pub lent-own : IsOwnCell key slot.now → AreOwnCells (unlent old) → AreOwnCells (unlent new)
-  lent-own own all = subst AreOwnCells (sym unlent-put) (own-insert (record { key = key }) slot.now (unlent old) own all)
+  pub lent-own : IsOwnCell key slot.now → AreOwnCells (owned_slots old) → AreOwnCells (owned_slots new)
+  lent-own own all = subst AreOwnCells (sym unlent-put) (own-insert (record { key = key }) slot.now (owned_slots old) own all)

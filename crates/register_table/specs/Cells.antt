@@ -10,11 +10,11 @@ use Rattle.register_table.specs.declared.slots.Slot.{Slot}
 use Rattle.register_table.specs.declared.keys.TextKey.{TextKey}
 use Rattle.register_table.specs.declared.touched.Touched.{Touched}
 use Rattle.register_table.specs.Held.{Cell, Held, cell_key}
-use Rattle.register_table.specs.Undos.{cell_of}
+use Rattle.register_table.specs.Undos.{cell_with}
 
 -- The cell of a slot.
 abbrev pub cell_in : Slot → Cell
-cell_in slot = cell_of slot.entry slot.item
+cell_in slot = cell_with slot.entry slot.item
 
 -- The item, if there is one, is under its own key.
 abbrev pub IsItemOf : RowKey → Option Item → Type 0
@@ -42,5 +42,5 @@ unfoldable pub held_in : List (TextKey × Slot) → Held
 held_in slots = from_entries (map under_texts slots)
 
 -- Borrowed slots under keys, as slots.
-abbrev pub unlent : List (TextKey × Bor Slot) → List (TextKey × Slot)
-unlent = map (λ slot. (slot.0, slot.1.now))
+abbrev pub owned_slots : List (TextKey × Bor Slot) → List (TextKey × Slot)
+owned_slots = map (λ slot. (slot.0, slot.1.now))

@@ -6,19 +6,19 @@ use Rattle.lei_records.specs.Tables.{Table}
 use Rattle.register_table.specs.declared.counts.Counts.{Counts}
 
 -- A count after a change under one key, which had a row or not, and now has one or not.
-abbrev pub step : Bool → Bool → ℕ → ℕ
-step false true count = count + 1
-step true false count = count - 1
-step was is count = count
+abbrev pub count_step : Bool → Bool → ℕ → ℕ
+count_step false true count = count + 1
+count_step true false count = count - 1
+count_step was is count = count
 
 -- The counts after such a change: only that of the key's kind changes.
 abbrev pub AreStepped : RowKey → Bool → Bool → Counts → Counts → Type 0
-AreStepped (RowKey.Rec lei) was is old new = (new.records ≡ step was is old.records)
+AreStepped (RowKey.Rec lei) was is old new = (new.records ≡ count_step was is old.records)
     × ((new.relations ≡ old.relations) × (new.exceptions ≡ old.exceptions))
 AreStepped (RowKey.Rel start kind end) was is old new = (new.records ≡ old.records)
-    × ((new.relations ≡ step was is old.relations) × (new.exceptions ≡ old.exceptions))
+    × ((new.relations ≡ count_step was is old.relations) × (new.exceptions ≡ old.exceptions))
 AreStepped (RowKey.Exc lei category) was is old new = (new.records ≡ old.records)
-    × ((new.relations ≡ old.relations) × (new.exceptions ≡ step was is old.exceptions))
+    × ((new.relations ≡ old.relations) × (new.exceptions ≡ count_step was is old.exceptions))
 
 -- The counts are those of a table.
 pub record AreCounts (counts : Counts) (table : Table) : Type 0 where

@@ -6,7 +6,7 @@ use Rattle.std.specs.Str.{bytes_eq}
 use Rattle.lei_code.specs.Texts.{Text}
 use Rattle.lei_records.specs.declared.view.RowKey.{RowKey}
 use Rattle.lei_records.specs.Rows.{Row}
-use Rattle.lei_records.specs.Tables.{KeyTexts, Rows, Table, key_cmp, exception_key, record_key, record_count, relation_key, IsSound}
+use Rattle.lei_records.specs.Tables.{KeyTexts, Rows, Table, key_cmp, exception_key, record_key, record_count, relation_key, IsSoundTable}
 
 -- ---- cells
 
@@ -74,8 +74,8 @@ abbrev pub no_rows : Table
 no_rows = record { records = empty; relations = empty; exceptions = empty }
 
 -- A table that can be kept: it is sound, and has at most 4,294,967,295 records.
-pub record IsKept (table : Table) : Type 0 where
-  pub sound : IsSound table
+pub record CanBeKept (table : Table) : Type 0 where
+  pub sound : IsSoundTable table
   pub count : record_count table ≤ 4294967295
 
 -- ---- what contracts see of a table

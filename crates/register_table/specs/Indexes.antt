@@ -37,14 +37,14 @@ abbrev pub end_in_index : Ends → Lei → RelationType → Option Lei
 end_in_index ends start kind = option_and_then (λ noted. noted) (noted_end ends start kind)
 
 -- What is under a key after it is freed: no LEI, if the index has the key.
-abbrev pub freed : Option (Option Lei) → Option (Option Lei)
-freed = option_map (λ noted. None)
+abbrev pub after_freeing : Option (Option Lei) → Option (Option Lei)
+after_freeing = option_map (λ noted. None)
 
 -- What is under a key after it is dropped: the index no longer has it, unless it has an LEI.
-abbrev pub dropped : Option (Option Lei) → Option (Option Lei)
-dropped None = None
-dropped (Some None) = None
-dropped (Some (Some lei)) = Some (Some lei)
+abbrev pub after_dropping : Option (Option Lei) → Option (Option Lei)
+after_dropping None = None
+after_dropping (Some None) = None
+after_dropping (Some (Some lei)) = Some (Some lei)
 
 -- The index has the authority, but no id under it.
 abbrev pub IsBare : {Y X : Type 0} → Option (BTreeMap Y X) → Type 0

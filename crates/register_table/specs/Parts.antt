@@ -15,9 +15,9 @@ use Rattle.register_table.specs.declared.authority_key_index.AuthorityKeyIndex.{
 use Rattle.register_table.specs.declared.parts.Note.{Note}
 use Rattle.register_table.specs.declared.parts.Parts.{Parts}
 use Rattle.register_table.specs.Cells.{IsOwnCell, cell_in}
-use Rattle.register_table.specs.Held.{Cell, Held, IsKept, cell_key, rows}
+use Rattle.register_table.specs.Held.{CanBeKept, Cell, Held, cell_key, rows}
 use Rattle.register_table.specs.Indexes.{HasNewEnd, HoldsNewKey, Marks, end_in_index, holder_in, noted_in, taken_in}
-use Rattle.register_table.specs.Undos.{Notes, put_back, undone}
+use Rattle.register_table.specs.Undos.{Notes, cells_before, put_back}
 
 -- ---- what is noted for an item
 
@@ -42,10 +42,10 @@ pub record AreNoted (item : Option Item) (holders : AuthorityKeyIndex) (ends : E
       → end_in_index later start kind ≡ end_after item (end_in_index ends) start kind
 
 -- An item has a key that its index doesn't have.
-abbrev pub IsNew : Option Item → AuthorityKeyIndex → Ends → Type 0
-IsNew (Some (Item.Record row)) holders ends = HoldsNewKey row holders
-IsNew (Some (Item.Relation row)) holders ends = HasNewEnd row ends
-IsNew item holders ends = ⊥
+abbrev pub IsNewItem : Option Item → AuthorityKeyIndex → Ends → Type 0
+IsNewItem (Some (Item.Record row)) holders ends = HoldsNewKey row holders
+IsNewItem (Some (Item.Relation row)) holders ends = HasNewEnd row ends
+IsNewItem item holders ends = ⊥
 
 -- Each key of an item is marked.
 abbrev pub IsMarked : Marks → Option Item → Type 0
@@ -57,18 +57,18 @@ IsMarked marks (Some (Item.Relation row)) =
 IsMarked marks item = ⊤
 
 -- Each key of an item that is marked in `some` is also marked in `others`.
-abbrev pub IsWithin : Marks → Marks → Option Item → Type 0
-IsWithin some others (Some (Item.Record row)) =
+abbrev pub MarksAreWithin : Marks → Marks → Option Item → Type 0
+MarksAreWithin some others (Some (Item.Record row)) =
     (authority id : Text) → holds authority id row ≡ true → some.by_key authority id ≡ true
     → others.by_key authority id ≡ true
-IsWithin some others (Some (Item.Relation row)) =
+MarksAreWithin some others (Some (Item.Relation row)) =
     (start : Lei) (kind : RelationType) → is_active_of start kind row ≡ true → some.by_start start kind ≡ true
     → others.by_start start kind ≡ true
-IsWithin some others item = ⊤
+MarksAreWithin some others item = ⊤
 
 -- The same for the item of a note, if it has one.
 abbrev pub IsNoteWithin : Marks → Marks → Note → Type 0
-IsNoteWithin some others note = IfSome note.slot (λ slot. IsWithin some others slot.item)
+IsNoteWithin some others note = IfSome note.slot (λ slot. MarksAreWithin some others slot.item)
 
 -- The authority keys that a live record has, and the starts and types of active relationships.
 abbrev pub held_by : Table → Marks
@@ -78,7 +78,7 @@ held_by table = record {
 }
 
 -- What was marked before is still marked after.
-pub record Stays (before after : Marks) : Type 0 where
+pub record MarksStay (before after : Marks) : Type 0 where
   pub by_key : (authority id : Text) → before.by_key authority id ≡ true → after.by_key authority id ≡ true
   pub by_start : (start : Lei) (kind : RelationType) → before.by_start start kind ≡ true
       → after.by_start start kind ≡ true
@@ -96,18 +96,18 @@ pub record AreIndexes (table : Table) (holders : Text → Text → Option Lei)
       → is_active_of start kind row ≡ true → ends start kind ≡ Some (end_in row)
 
 -- The cells can be kept, and the indexes are those of their rows.
-pub record AreParts (parts : Parts) : Type 0 where
-  pub kept : IsKept (rows parts.cells)
+pub record ArePartsOfTable (parts : Parts) : Type 0 where
+  pub kept : CanBeKept (rows parts.cells)
   pub indexes : AreIndexes (rows parts.cells) (holder_in parts.holders) (end_in_index parts.ends)
 
 -- ---- notes
 
 -- The note as contracts see it.
-abbrev pub note_of : Note → RowKey × Option Cell
-note_of note = (note.key, option_map cell_in note.slot)
+abbrev pub note_cell : Note → RowKey × Option Cell
+note_cell note = (note.key, option_map cell_in note.slot)
 
 -- What a note has belongs to its key, and each key of its item is marked.
-pub record IsNoteOf (marks : Marks) (note : Note) : Type 0 where
+pub record NotesCell (marks : Marks) (note : Note) : Type 0 where
   pub own : IfSome note.slot (IsOwnCell note.key)
   pub marked : IfSome note.slot (λ slot. IsMarked marks slot.item)
 
@@ -115,18 +115,18 @@ pub record IsNoteOf (marks : Marks) (note : Note) : Type 0 where
 -- can be kept afterwards.
 abbrev pub AreUndoable : Notes → Held → Type 0
 AreUndoable [] held = ⊤
-AreUndoable (note ∷ notes) held = (IsSome (get (undone notes held) (cell_key note.0))
-    × IsKept (rows (put_back (undone notes held) note))) × AreUndoable notes held
+AreUndoable (note ∷ notes) held = (IsSome (get (cells_before notes held) (cell_key note.0))
+    × CanBeKept (rows (put_back (cells_before notes held) note))) × AreUndoable notes held
 
 -- Notes can be put back into these cells, and each key of their items is marked.
 pub record CanBeUndone (marks : Marks) (notes : List Note) (held : Held) : Type 0 where
-  pub each : AllByRecursion (IsNoteOf marks) notes
-  pub kept : AreUndoable (map note_of notes) held
+  pub each : AllByRecursion (NotesCell marks) notes
+  pub kept : AreUndoable (map note_cell notes) held
 
 -- The keys that the indexes of these parts have, with or without an LEI.
-abbrev pub noted : Parts → Marks
-noted parts = noted_in parts.holders parts.ends
+abbrev pub all_marks : Parts → Marks
+all_marks parts = noted_in parts.holders parts.ends
 
 -- The keys that have an LEI in the indexes of these parts.
-abbrev pub taken : Parts → Marks
-taken parts = taken_in parts.holders parts.ends
+abbrev pub lei_marks : Parts → Marks
+lei_marks parts = taken_in parts.holders parts.ends

@@ -7,8 +7,8 @@ use Rattle.register_table.specs.declared.stamps.Stamp.{Stamp}
 use Rattle.register_table.specs.Held.{Cell, Held, cell_key}
 
 -- The numbers of stamps never decrease.
-abbrev pub AreInOrder : List Stamp → Type 0
-AreInOrder stamps = IsNonDecreasingBy (λ stamp. stamp.entry) stamps
+abbrev pub StampsDontFall : List Stamp → Type 0
+StampsDontFall stamps = IsNonDecreasingBy (λ stamp. stamp.entry) stamps
 
 -- A stamp has this number and this key.
 abbrev pub IsStampOf : ℕ → KeyTexts → Stamp → Type 0

@@ -5,7 +5,7 @@ use Rattle.std.specs.List.{filter}
 use Rattle.lei_records.specs.Tables.{KeyTexts}
 use Rattle.register_table.specs.declared.touched.Touched.{Touched}
 use Rattle.register_table.specs.Held.{Cell, Held, cell_key}
-use Rattle.register_table.specs.Undos.{cell_of}
+use Rattle.register_table.specs.Undos.{cell_with}
 
 -- The number of a cell is greater than `after` and at most `upto`.
 abbrev pub is_touched : ℕ → ℕ → Cell → Bool
@@ -16,5 +16,5 @@ abbrev pub touched : ℕ → ℕ → Held → List (KeyTexts × Cell)
 touched after upto held = filter (λ cell. is_touched after upto cell.1) (entries held)
 
 -- A key that is listed as touched, as a cell under its key.
-abbrev pub shown : Touched → KeyTexts × Cell
-shown told = (cell_key told.key, cell_of told.entry told.item)
+abbrev pub cell_under_key : Touched → KeyTexts × Cell
+cell_under_key told = (cell_key told.key, cell_with told.entry told.item)

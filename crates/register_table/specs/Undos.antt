@@ -5,7 +5,7 @@ use Rattle.lei_records.specs.declared.item.Item.{Item}
 use Rattle.lei_records.specs.declared.view.RowKey.{RowKey}
 use Rattle.lei_records.specs.Rows.{Row}
 use Rattle.lei_records.specs.Tables.{KeyTexts, Table, put_write, row_key}
-use Rattle.register_table.specs.Held.{Cell, Held, IsKept, cell_key}
+use Rattle.register_table.specs.Held.{CanBeKept, Cell, Held, cell_key}
 
 -- Writes, in order: a key with its item, or with none for a withdrawal.
 abbrev pub WriteList : Type 0
@@ -32,7 +32,7 @@ AreOwn (write ∷ writes) = IsOwn write × AreOwn writes
 -- After each of the writes the table can be kept.
 abbrev pub StaysKept : WriteList → Table → Type 0
 StaysKept [] table = ⊤
-StaysKept (write ∷ writes) table = IsKept (put_write table write) × StaysKept writes (put_write table write)
+StaysKept (write ∷ writes) table = CanBeKept (put_write table write) × StaysKept writes (put_write table write)
 
 -- Writes may be applied to a table. Each has the key of its item, which isn't a withdrawal, or the key of an exception
 -- and no item. After each of them the table is sound and not too large.
@@ -43,18 +43,18 @@ pub record MayApply (writes : WriteList) (table : Table) : Type 0 where
 -- ---- what writes do to cells
 
 -- The row of an item.
-abbrev pub row_of : Item → Row
-row_of (Item.Record row) = row
-row_of (Item.Relation row) = row
-row_of (Item.Exception item) = item.0
+abbrev pub row_in_item : Item → Row
+row_in_item (Item.Record row) = row
+row_in_item (Item.Relation row) = row
+row_in_item (Item.Exception item) = item.0
 
 -- The cell of a key under which the entry with this number puts an item, or none.
-abbrev pub cell_of : ℕ → Option Item → Cell
-cell_of entry item = record { entry = entry; row = option_map row_of item }
+abbrev pub cell_with : ℕ → Option Item → Cell
+cell_with entry item = record { entry = entry; row = option_map row_in_item item }
 
 -- The cells after a write of the entry with this number.
 abbrev pub touch : ℕ → Held → RowKey × Option Item → Held
-touch entry held write = insert held (cell_key write.0) (cell_of entry write.1)
+touch entry held write = insert held (cell_key write.0) (cell_with entry write.1)
 
 -- The cells after writes of the entry with this number, from the first to the last.
 abbrev pub touch_all : ℕ → WriteList → Held → Held
@@ -72,15 +72,15 @@ abbrev pub Notes : Type 0
 Notes = List (RowKey × Option Cell)
 
 -- The cells with this one under the key, or with none.
-abbrev pub with_cell : Held → KeyTexts → Option Cell → Held
-with_cell held key (Some cell) = insert held key cell
-with_cell held key None = remove held key
+abbrev pub cells_with : Held → KeyTexts → Option Cell → Held
+cells_with held key (Some cell) = insert held key cell
+cells_with held key None = remove held key
 
 -- The cells with a note put back.
 abbrev pub put_back : Held → RowKey × Option Cell → Held
-put_back held note = with_cell held (cell_key note.0) note.1
+put_back held note = cells_with held (cell_key note.0) note.1
 
 -- The cells with all notes put back, from the last to the first.
-abbrev pub undone : Notes → Held → Held
-undone [] held = held
-undone (note ∷ notes) held = put_back (undone notes held) note
+abbrev pub cells_before : Notes → Held → Held
+cells_before [] held = held
+cells_before (note ∷ notes) held = put_back (cells_before notes held) note

@@ -5,7 +5,7 @@ ghost use Rattle.std.specs.Bool.{OnTrue};
 ghost use Rattle.std.specs.Str.{bytes_eq};
 ghost use Rattle.lei_records.specs.Cells;
 ghost use Rattle.lei_records.specs.Cells.{lei_in};
-ghost use Rattle.register_table.specs.Indexes.{HoldsNewKey, IsBare, dropped, freed, holder_in, noted_holder};
+ghost use Rattle.register_table.specs.Indexes.{HoldsNewKey, IsBare, after_dropping, after_freeing, holder_in, noted_holder};
 
 use authority_rules::{is_live, key_of};
 use lei_code::Lei;
@@ -65,7 +65,7 @@ impl AuthorityKeyIndex {
     /// Frees a key: no LEI is left under it.
     pub fn free(&mut self, authority: &str, id: &str)
         ensures { (a i : List ℕ) → noted_holder self.new a i
-            ≡ (if bytes_eq authority.now a && bytes_eq id.now i then freed (noted_holder self.old a i)
+            ≡ (if bytes_eq authority.now a && bytes_eq id.now i then after_freeing (noted_holder self.old a i)
             else noted_holder self.old a i) }
     {
         if let Some(ids) = self.map.get_mut(authority) {
@@ -76,7 +76,8 @@ impl AuthorityKeyIndex {
     /// Drops a key that has no LEI.
     pub fn drop_freed(&mut self, authority: &str, id: &str)
         ensures { (a i : List ℕ) → noted_holder self.new a i
-            ≡ (if bytes_eq authority.now a && bytes_eq id.now i then dropped (noted_holder self.old a i)
+            ≡ (if bytes_eq authority.now a && bytes_eq id.now i then after_dropping
+            (noted_holder self.old a i)
             else noted_holder self.old a i) }
     {
         if self.get(authority, id).is_none() {
@@ -143,7 +144,7 @@ impl AuthorityKeyIndex {
 #[tactic(auto, unfolding(lei_records::specs::Cells::holds))]
 pub fn held_key(record: &Record) -> Option<(&str, &str)>
     ensures { (authority id : List ℕ) → Cells.holds authority id record.now
-        ≡ Cells.is_key authority id (option_map (λ key. (key.0.now, key.1.now)) result) }
+        ≡ Cells.is_authority_key authority id (option_map (λ key. (key.0.now, key.1.now)) result) }
 {
     if is_live(record) {
         key_of(record)
@@ -155,7 +156,7 @@ pub fn held_key(record: &Record) -> Option<(&str, &str)>
 // Frees an id: no LEI is left under it.
 fn free_id(ids: &mut Ids, id: &str)
     ensures { (i : List ℕ) → get_by_text ids.new i
-        ≡ (if bytes_eq id.now i then freed (get_by_text ids.old i) else get_by_text ids.old i) }
+        ≡ (if bytes_eq id.now i then after_freeing (get_by_text ids.old i) else get_by_text ids.old i) }
 {
     if let Some(noted) = ids.get_mut(id) {
         *noted = None;

@@ -2,11 +2,11 @@
 ghost use Rattle.std.specs.Prelude.{◌≡◌, ◌++◌, ◌∷◌, [], true, Some, None, IfOk, OnOk, OnErr, IfSome, is_some, map, option_map};
 ghost use Rattle.std.specs.List.{filter};
 ghost use Rattle.std.specs.FinMap.{empty, entries, get, insert, remove};
-ghost use Rattle.register_table.specs.Cells.{AreOwnCells, AreOwnItems, IsOwnCell, cell_in, held_in, unlent};
+ghost use Rattle.register_table.specs.Cells.{AreOwnCells, AreOwnItems, IsOwnCell, cell_in, held_in, owned_slots};
 ghost use Rattle.register_table.specs.Counts.{AreCounts};
 ghost use Rattle.lei_records.specs.Tables.{KeyTexts};
 ghost use Rattle.register_table.specs.Held.{Cell, cell_key, row_in, rows};
-ghost use Rattle.register_table.specs.Touched.{is_touched, shown, touched};
+ghost use Rattle.register_table.specs.Touched.{cell_under_key, is_touched, touched};
 ghost use Rattle.register_table.specs.Stamps.{HasStamp};
 
 use crate::counts::Counts;
@@ -90,19 +90,19 @@ impl CellMap {
     ) -> Result<Vec<Touched>, NoMemory>
         requires { (key : KeyTexts) (cell : Cell) → get self.now key ≡ Some cell
             → is_touched after upto cell ≡ true → HasStamp stamps.now cell.entry key }
-        ensures told { IfOk result (λ list. map shown list.items ≡ touched after upto self.now) }
+        ensures told { IfOk result (λ list. map cell_under_key list.items ≡ touched after upto self.now) }
         ensures own { IfOk result (λ list. AreOwnItems list.items) }
     {
         if self.map.len() / LOOK_UP <= stamps.len() {
             let room = stamps.len().min(self.map.len());
             return touched_among(alloc, &self.map, room, after, upto);
         }
-        let slots = self.stamped(alloc, stamps, after, upto)?;
+        let slots = self.slots_between(alloc, stamps, after, upto)?;
         touched_in(alloc, &slots)
     }
 
     // The slots whose numbers are greater than `after` and at most `upto`, looked up by their stamps.
-    fn stamped(
+    fn slots_between(
         &self,
         alloc: Global,
         stamps: &[Stamp],
@@ -112,8 +112,8 @@ impl CellMap {
         requires { (key : KeyTexts) (cell : Cell) → get self.now key ≡ Some cell
             → is_touched after upto cell ≡ true → HasStamp stamps.now cell.entry key }
         ensures found { IfOk result
-            (λ slots. entries (held_in (unlent slots.entries)) ≡ touched after upto self.now) }
-        ensures own { IfOk result (λ slots. AreOwnCells (unlent slots.entries)) }
+            (λ slots. entries (held_in (owned_slots slots.entries)) ≡ touched after upto self.now) }
+        ensures own { IfOk result (λ slots. AreOwnCells (owned_slots slots.entries)) }
     {
         let mut slots = BTreeMap::new(alloc);
         for stamp in stamps {
@@ -173,10 +173,10 @@ fn has_item(slot: &Option<Slot>) -> bool
 // Puts a borrowed slot under its key.
 fn lend<'a>(slots: &mut LentSlots<'a>, key: &RowKey, slot: &'a Slot) -> Result<(), NoMemory>
     requires own { IsOwnCell key.now slot.now }
-    requires all_own { AreOwnCells (unlent slots.old.entries) }
-    ensures cells { OnOk result (held_in (unlent slots.new.entries)
-        ≡ insert (held_in (unlent slots.old.entries)) (cell_key key.now) (cell_in slot.now)) }
-    ensures own { OnOk result (AreOwnCells (unlent slots.new.entries)) }
+    requires all_own { AreOwnCells (owned_slots slots.old.entries) }
+    ensures cells { OnOk result (held_in (owned_slots slots.new.entries)
+        ≡ insert (held_in (owned_slots slots.old.entries)) (cell_key key.now) (cell_in slot.now)) }
+    ensures own { OnOk result (AreOwnCells (owned_slots slots.new.entries)) }
 {
     match slots.insert(TextKey { key: *key }, slot) {
         Ok(_) => Ok(()),
@@ -186,8 +186,9 @@ fn lend<'a>(slots: &mut LentSlots<'a>, key: &RowKey, slot: &'a Slot) -> Result<(
 
 // The slots under their keys, in the order of the keys. The items in the result share their texts with the slots.
 fn touched_in(alloc: Global, slots: &LentSlots<'_>) -> Result<Vec<Touched>, NoMemory>
-    requires { AreOwnCells (unlent slots.now.entries) }
-    ensures told { IfOk result (λ list. map shown list.items ≡ entries (held_in (unlent slots.now.entries))) }
+    requires { AreOwnCells (owned_slots slots.now.entries) }
+    ensures told { IfOk result
+        (λ list. map cell_under_key list.items ≡ entries (held_in (owned_slots slots.now.entries))) }
     ensures own { IfOk result (λ list. AreOwnItems list.items) }
 {
     let mut list = Vec::with_capacity(alloc, slots.len())?;
@@ -208,7 +209,7 @@ fn touched_among(
 ) -> Result<Vec<Touched>, NoMemory>
     requires { AreOwnCells cells.now.entries }
     ensures told { IfOk result
-        (λ list. map shown list.items ≡ touched after upto (held_in cells.now.entries)) }
+        (λ list. map cell_under_key list.items ≡ touched after upto (held_in cells.now.entries)) }
     ensures own { IfOk result (λ list. AreOwnItems list.items) }
 {
     // A step of the proof: the keys are in order.
@@ -230,7 +231,7 @@ fn push_within(
 ) -> Result<(), NoMemory>
     requires own { IsOwnCell key.now slot.now }
     requires all_own { AreOwnItems list.old.items }
-    ensures told { OnOk result (map shown list.new.items ≡ map shown list.old.items
+    ensures told { OnOk result (map cell_under_key list.new.items ≡ map cell_under_key list.old.items
         ++ filter (λ cell. is_touched after upto cell.1) ((cell_key key.now, cell_in slot.now) ∷ [])) }
     ensures own { OnOk result (AreOwnItems list.new.items) }
 {

@@ -1,6 +1,6 @@
 //! Counts of the rows of each kind that are held.
 ghost use Rattle.std.specs.Prelude.{◌≡◌, ◌+◌, ◌^◌, ◌<◌};
-ghost use Rattle.register_table.specs.Counts.{AreStepped, CanRise, step};
+ghost use Rattle.register_table.specs.Counts.{AreStepped, CanRise, count_step};
 
 use lei_records::RowKey;
 
@@ -20,16 +20,16 @@ impl Counts {
         ensures { AreStepped key.now was is self.old self.new }
     {
         match key {
-            RowKey::Rec(_) => self.records = stepped(self.records, was, is),
-            RowKey::Rel(_, _, _) => self.relations = stepped(self.relations, was, is),
-            RowKey::Exc(_, _) => self.exceptions = stepped(self.exceptions, was, is),
+            RowKey::Rec(_) => self.records = count_step(self.records, was, is),
+            RowKey::Rel(_, _, _) => self.relations = count_step(self.relations, was, is),
+            RowKey::Exc(_, _) => self.exceptions = count_step(self.exceptions, was, is),
         }
     }
 }
 
-fn stepped(count: u64, was: bool, is: bool) -> u64
+fn count_step(count: u64, was: bool, is: bool) -> u64
     requires { count + 1 < 2 ^ 64 }
-    ensures { result ≡ step was is count }
+    ensures { result ≡ count_step was is count }
 {
     match (was, is) {
         (false, true) => count + 1,

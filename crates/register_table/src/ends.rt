@@ -4,7 +4,7 @@ ghost use Rattle.std.specs.Str.{bytes_eq};
 ghost use Rattle.lei_shapes.specs.declared.lists.RelationType.{RelationType};
 ghost use Rattle.lei_records.specs.Relations;
 ghost use Rattle.lei_records.specs.Relations.{end_in, is_same_type};
-ghost use Rattle.register_table.specs.Indexes.{HasNewEnd, dropped, end_in_index, freed, noted_end};
+ghost use Rattle.register_table.specs.Indexes.{HasNewEnd, after_dropping, after_freeing, end_in_index, noted_end};
 
 use lei_code::Lei;
 use lei_outside::NoMemory;
@@ -66,7 +66,7 @@ impl Ends {
     /// Frees a start and a type: no end is left under them.
     pub fn free(&mut self, start: &Lei, kind: RelationType)
         ensures { (s : List ℕ) (k : RelationType) → noted_end self.new s k
-            ≡ (if bytes_eq start.now s && is_same_type kind k then freed (noted_end self.old s k)
+            ≡ (if bytes_eq start.now s && is_same_type kind k then after_freeing (noted_end self.old s k)
             else noted_end self.old s k) }
     {
         if let Some(noted) = self.map.get_mut(&(*start, kind.text())) {
@@ -77,7 +77,7 @@ impl Ends {
     /// Drops a start and a type that have no end.
     pub fn drop_freed(&mut self, start: &Lei, kind: RelationType)
         ensures { (s : List ℕ) (k : RelationType) → noted_end self.new s k
-            ≡ (if bytes_eq start.now s && is_same_type kind k then dropped (noted_end self.old s k)
+            ≡ (if bytes_eq start.now s && is_same_type kind k then after_dropping (noted_end self.old s k)
             else noted_end self.old s k) }
     {
         if self.get(start, kind).is_none() {

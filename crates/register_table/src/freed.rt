@@ -4,8 +4,8 @@ ghost use Rattle.std.specs.Prelude.{◌≡◌, Some, map};
 ghost use Rattle.std.specs.List.{All, AllByRecursion};
 ghost use Rattle.lei_records.specs.declared.item.Item.{Item};
 ghost use Rattle.register_table.specs.Held.{rows};
-ghost use Rattle.register_table.specs.Parts.{AreParts, CanBeUndone, IsMarked, IsNoteOf, IsNoteWithin, IsWithin, Stays, held_by, note_of, noted, taken};
-ghost use Rattle.register_table.specs.Undos.{undone};
+ghost use Rattle.register_table.specs.Parts.{ArePartsOfTable, CanBeUndone, IsMarked, IsNoteWithin, MarksAreWithin, MarksStay, NotesCell, all_marks, held_by, lei_marks, note_cell};
+ghost use Rattle.register_table.specs.Undos.{cells_before};
 
 use crate::authority_key_index::held_key;
 use crate::parts::{Note, Parts};
@@ -16,12 +16,12 @@ use lei_records::{Item, Record, Relation};
 /// Undoes writes by their notes, and drops the keys that nobody holds any more, except those that the notes of the
 /// writes before name. Nothing is allocated.
 pub fn take_back(parts: &mut Parts, mut notes: Vec<Note>, before: &[Note])
-    requires parts { AreParts parts.old }
-    requires undoable { CanBeUndone (noted parts.old) notes.items parts.old.cells }
-    requires before { AllByRecursion (IsNoteOf (noted parts.old)) before.now }
-    ensures cells { parts.new.cells ≡ undone (map note_of notes.items) parts.old.cells }
-    ensures parts { AreParts parts.new }
-    ensures before { AllByRecursion (IsNoteOf (noted parts.new)) before.now }
+    requires parts { ArePartsOfTable parts.old }
+    requires undoable { CanBeUndone (all_marks parts.old) notes.items parts.old.cells }
+    requires before { AllByRecursion (NotesCell (all_marks parts.old)) before.now }
+    ensures cells { parts.new.cells ≡ cells_before (map note_cell notes.items) parts.old.cells }
+    ensures parts { ArePartsOfTable parts.new }
+    ensures before { AllByRecursion (NotesCell (all_marks parts.new)) before.now }
 {
     undo_notes(parts, notes.as_mut_slice());
     free_keys(parts, notes.as_slice());
@@ -32,12 +32,12 @@ pub fn take_back(parts: &mut Parts, mut notes: Vec<Note>, before: &[Note])
 /// Frees the keys of the items of these notes that nobody holds any more. The indexes keep all keys, and no key gets an
 /// LEI that had none.
 pub fn free_keys(parts: &mut Parts, notes: &[Note])
-    requires { AreParts parts.old }
+    requires { ArePartsOfTable parts.old }
     ensures cells { parts.new.cells ≡ parts.old.cells }
-    ensures parts { AreParts parts.new }
-    ensures noted { Stays (noted parts.old) (noted parts.new) }
-    ensures fewer { Stays (taken parts.new) (taken parts.old) }
-    ensures left { All (IsNoteWithin (taken parts.new) (held_by (rows parts.old.cells))) notes.now }
+    ensures parts { ArePartsOfTable parts.new }
+    ensures noted { MarksStay (all_marks parts.old) (all_marks parts.new) }
+    ensures fewer { MarksStay (lei_marks parts.new) (lei_marks parts.old) }
+    ensures left { All (IsNoteWithin (lei_marks parts.new) (held_by (rows parts.old.cells))) notes.now }
 {
     for note in notes {
         free_note(parts, note);
@@ -45,12 +45,12 @@ pub fn free_keys(parts: &mut Parts, notes: &[Note])
 }
 
 fn free_note(parts: &mut Parts, note: &Note)
-    requires { AreParts parts.old }
+    requires { ArePartsOfTable parts.old }
     ensures cells { parts.new.cells ≡ parts.old.cells }
-    ensures parts { AreParts parts.new }
-    ensures noted { Stays (noted parts.old) (noted parts.new) }
-    ensures fewer { Stays (taken parts.new) (taken parts.old) }
-    ensures left { IsNoteWithin (taken parts.new) (held_by (rows parts.old.cells)) note.now }
+    ensures parts { ArePartsOfTable parts.new }
+    ensures noted { MarksStay (all_marks parts.old) (all_marks parts.new) }
+    ensures fewer { MarksStay (lei_marks parts.new) (lei_marks parts.old) }
+    ensures left { IsNoteWithin (lei_marks parts.new) (held_by (rows parts.old.cells)) note.now }
 {
     if let Some(slot) = &note.slot {
         free_item(parts, &slot.item);
@@ -58,12 +58,12 @@ fn free_note(parts: &mut Parts, note: &Note)
 }
 
 fn free_item(parts: &mut Parts, item: &Option<Item>)
-    requires { AreParts parts.old }
+    requires { ArePartsOfTable parts.old }
     ensures cells { parts.new.cells ≡ parts.old.cells }
-    ensures parts { AreParts parts.new }
-    ensures noted { Stays (noted parts.old) (noted parts.new) }
-    ensures fewer { Stays (taken parts.new) (taken parts.old) }
-    ensures left { IsWithin (taken parts.new) (held_by (rows parts.old.cells)) item.now }
+    ensures parts { ArePartsOfTable parts.new }
+    ensures noted { MarksStay (all_marks parts.old) (all_marks parts.new) }
+    ensures fewer { MarksStay (lei_marks parts.new) (lei_marks parts.old) }
+    ensures left { MarksAreWithin (lei_marks parts.new) (held_by (rows parts.old.cells)) item.now }
 {
     match item {
         Some(Item::Record(record)) => free_key(parts, record),
@@ -73,12 +73,12 @@ fn free_item(parts: &mut Parts, item: &Option<Item>)
 }
 
 fn free_key(parts: &mut Parts, record: &Record)
-    requires { AreParts parts.old }
+    requires { ArePartsOfTable parts.old }
     ensures cells { parts.new.cells ≡ parts.old.cells }
-    ensures parts { AreParts parts.new }
-    ensures noted { Stays (noted parts.old) (noted parts.new) }
-    ensures fewer { Stays (taken parts.new) (taken parts.old) }
-    ensures left { IsWithin (taken parts.new) (held_by (rows parts.old.cells))
+    ensures parts { ArePartsOfTable parts.new }
+    ensures noted { MarksStay (all_marks parts.old) (all_marks parts.new) }
+    ensures fewer { MarksStay (lei_marks parts.new) (lei_marks parts.old) }
+    ensures left { MarksAreWithin (lei_marks parts.new) (held_by (rows parts.old.cells))
         (Some (Item.Record record.now)) }
 {
     if let Some((authority, id)) = held_key(record) {
@@ -89,12 +89,12 @@ fn free_key(parts: &mut Parts, record: &Record)
 }
 
 fn free_start(parts: &mut Parts, relation: &Relation)
-    requires { AreParts parts.old }
+    requires { ArePartsOfTable parts.old }
     ensures cells { parts.new.cells ≡ parts.old.cells }
-    ensures parts { AreParts parts.new }
-    ensures noted { Stays (noted parts.old) (noted parts.new) }
-    ensures fewer { Stays (taken parts.new) (taken parts.old) }
-    ensures left { IsWithin (taken parts.new) (held_by (rows parts.old.cells))
+    ensures parts { ArePartsOfTable parts.new }
+    ensures noted { MarksStay (all_marks parts.old) (all_marks parts.new) }
+    ensures fewer { MarksStay (lei_marks parts.new) (lei_marks parts.old) }
+    ensures left { MarksAreWithin (lei_marks parts.new) (held_by (rows parts.old.cells))
         (Some (Item.Relation relation.now)) }
 {
     if relation.is_active() {
@@ -108,11 +108,11 @@ fn free_start(parts: &mut Parts, relation: &Relation)
 /// Puts an LEI under each key of the items of these notes that has none, so that it isn't dropped. Keys that have an
 /// LEI keep one. The indexes have the keys already, so nothing is allocated.
 fn hold_keys(parts: &mut Parts, notes: &[Note])
-    requires parts { AreParts parts.old }
-    requires places { AllByRecursion (IsNoteOf (noted parts.old)) notes.now }
+    requires parts { ArePartsOfTable parts.old }
+    requires places { AllByRecursion (NotesCell (all_marks parts.old)) notes.now }
     ensures cells { parts.new.cells ≡ parts.old.cells }
-    ensures parts { AreParts parts.new }
-    ensures held { AllByRecursion (IsNoteOf (taken parts.new)) notes.now }
+    ensures parts { ArePartsOfTable parts.new }
+    ensures held { AllByRecursion (NotesCell (lei_marks parts.new)) notes.now }
 {
     for note in notes {
         hold_note(parts, note);
@@ -120,13 +120,13 @@ fn hold_keys(parts: &mut Parts, notes: &[Note])
 }
 
 fn hold_note(parts: &mut Parts, note: &Note)
-    requires parts { AreParts parts.old }
-    requires places { IsNoteOf (noted parts.old) note.now }
+    requires parts { ArePartsOfTable parts.old }
+    requires places { NotesCell (all_marks parts.old) note.now }
     ensures cells { parts.new.cells ≡ parts.old.cells }
-    ensures parts { AreParts parts.new }
-    ensures noted { Stays (noted parts.old) (noted parts.new) }
-    ensures taken { Stays (taken parts.old) (taken parts.new) }
-    ensures held { IsNoteOf (taken parts.new) note.now }
+    ensures parts { ArePartsOfTable parts.new }
+    ensures noted { MarksStay (all_marks parts.old) (all_marks parts.new) }
+    ensures taken { MarksStay (lei_marks parts.old) (lei_marks parts.new) }
+    ensures held { NotesCell (lei_marks parts.new) note.now }
 {
     if let Some(slot) = &note.slot {
         hold_item(parts, &slot.item);
@@ -134,13 +134,13 @@ fn hold_note(parts: &mut Parts, note: &Note)
 }
 
 fn hold_item(parts: &mut Parts, item: &Option<Item>)
-    requires parts { AreParts parts.old }
-    requires places { IsMarked (noted parts.old) item.now }
+    requires parts { ArePartsOfTable parts.old }
+    requires places { IsMarked (all_marks parts.old) item.now }
     ensures cells { parts.new.cells ≡ parts.old.cells }
-    ensures parts { AreParts parts.new }
-    ensures noted { Stays (noted parts.old) (noted parts.new) }
-    ensures taken { Stays (taken parts.old) (taken parts.new) }
-    ensures held { IsMarked (taken parts.new) item.now }
+    ensures parts { ArePartsOfTable parts.new }
+    ensures noted { MarksStay (all_marks parts.old) (all_marks parts.new) }
+    ensures taken { MarksStay (lei_marks parts.old) (lei_marks parts.new) }
+    ensures held { IsMarked (lei_marks parts.new) item.now }
 {
     match item {
         Some(Item::Record(record)) => hold_key(parts, record),
@@ -150,13 +150,13 @@ fn hold_item(parts: &mut Parts, item: &Option<Item>)
 }
 
 fn hold_key(parts: &mut Parts, record: &Record)
-    requires parts { AreParts parts.old }
-    requires places { IsMarked (noted parts.old) (Some (Item.Record record.now)) }
+    requires parts { ArePartsOfTable parts.old }
+    requires places { IsMarked (all_marks parts.old) (Some (Item.Record record.now)) }
     ensures cells { parts.new.cells ≡ parts.old.cells }
-    ensures parts { AreParts parts.new }
-    ensures noted { Stays (noted parts.old) (noted parts.new) }
-    ensures taken { Stays (taken parts.old) (taken parts.new) }
-    ensures held { IsMarked (taken parts.new) (Some (Item.Record record.now)) }
+    ensures parts { ArePartsOfTable parts.new }
+    ensures noted { MarksStay (all_marks parts.old) (all_marks parts.new) }
+    ensures taken { MarksStay (lei_marks parts.old) (lei_marks parts.new) }
+    ensures held { IsMarked (lei_marks parts.new) (Some (Item.Record record.now)) }
 {
     if let Some((authority, id)) = held_key(record) {
         if parts.holders.get(authority, id).is_none() {
@@ -169,13 +169,13 @@ fn hold_key(parts: &mut Parts, record: &Record)
 }
 
 fn hold_start(parts: &mut Parts, relation: &Relation)
-    requires parts { AreParts parts.old }
-    requires places { IsMarked (noted parts.old) (Some (Item.Relation relation.now)) }
+    requires parts { ArePartsOfTable parts.old }
+    requires places { IsMarked (all_marks parts.old) (Some (Item.Relation relation.now)) }
     ensures cells { parts.new.cells ≡ parts.old.cells }
-    ensures parts { AreParts parts.new }
-    ensures noted { Stays (noted parts.old) (noted parts.new) }
-    ensures taken { Stays (taken parts.old) (taken parts.new) }
-    ensures held { IsMarked (taken parts.new) (Some (Item.Relation relation.now)) }
+    ensures parts { ArePartsOfTable parts.new }
+    ensures noted { MarksStay (all_marks parts.old) (all_marks parts.new) }
+    ensures taken { MarksStay (lei_marks parts.old) (lei_marks parts.new) }
+    ensures held { IsMarked (lei_marks parts.new) (Some (Item.Relation relation.now)) }
 {
     if relation.is_active() {
         let (start, kind) = (relation.start(), relation.kind());
@@ -190,12 +190,12 @@ fn hold_start(parts: &mut Parts, relation: &Relation)
 
 /// Drops the keys of the items of these notes that have no LEI. Keys that have an LEI keep one.
 pub fn drop_freed(parts: &mut Parts, notes: &[Note])
-    requires { AreParts parts.old }
+    requires { ArePartsOfTable parts.old }
     ensures cells { parts.new.cells ≡ parts.old.cells }
-    ensures parts { AreParts parts.new }
-    ensures taken { Stays (taken parts.old) (taken parts.new) }
-    ensures fewer { Stays (noted parts.new) (noted parts.old) }
-    ensures left { All (IsNoteWithin (noted parts.new) (taken parts.new)) notes.now }
+    ensures parts { ArePartsOfTable parts.new }
+    ensures taken { MarksStay (lei_marks parts.old) (lei_marks parts.new) }
+    ensures fewer { MarksStay (all_marks parts.new) (all_marks parts.old) }
+    ensures left { All (IsNoteWithin (all_marks parts.new) (lei_marks parts.new)) notes.now }
 {
     for note in notes {
         drop_note(parts, note);
@@ -203,12 +203,12 @@ pub fn drop_freed(parts: &mut Parts, notes: &[Note])
 }
 
 fn drop_note(parts: &mut Parts, note: &Note)
-    requires { AreParts parts.old }
+    requires { ArePartsOfTable parts.old }
     ensures cells { parts.new.cells ≡ parts.old.cells }
-    ensures parts { AreParts parts.new }
-    ensures taken { Stays (taken parts.old) (taken parts.new) }
-    ensures fewer { Stays (noted parts.new) (noted parts.old) }
-    ensures left { IsNoteWithin (noted parts.new) (taken parts.new) note.now }
+    ensures parts { ArePartsOfTable parts.new }
+    ensures taken { MarksStay (lei_marks parts.old) (lei_marks parts.new) }
+    ensures fewer { MarksStay (all_marks parts.new) (all_marks parts.old) }
+    ensures left { IsNoteWithin (all_marks parts.new) (lei_marks parts.new) note.now }
 {
     if let Some(slot) = &note.slot {
         drop_item(parts, &slot.item);
@@ -216,12 +216,12 @@ fn drop_note(parts: &mut Parts, note: &Note)
 }
 
 fn drop_item(parts: &mut Parts, item: &Option<Item>)
-    requires { AreParts parts.old }
+    requires { ArePartsOfTable parts.old }
     ensures cells { parts.new.cells ≡ parts.old.cells }
-    ensures parts { AreParts parts.new }
-    ensures taken { Stays (taken parts.old) (taken parts.new) }
-    ensures fewer { Stays (noted parts.new) (noted parts.old) }
-    ensures left { IsWithin (noted parts.new) (taken parts.new) item.now }
+    ensures parts { ArePartsOfTable parts.new }
+    ensures taken { MarksStay (lei_marks parts.old) (lei_marks parts.new) }
+    ensures fewer { MarksStay (all_marks parts.new) (all_marks parts.old) }
+    ensures left { MarksAreWithin (all_marks parts.new) (lei_marks parts.new) item.now }
 {
     match item {
         Some(Item::Record(record)) => drop_key(parts, record),
@@ -231,12 +231,13 @@ fn drop_item(parts: &mut Parts, item: &Option<Item>)
 }
 
 fn drop_key(parts: &mut Parts, record: &Record)
-    requires { AreParts parts.old }
+    requires { ArePartsOfTable parts.old }
     ensures cells { parts.new.cells ≡ parts.old.cells }
-    ensures parts { AreParts parts.new }
-    ensures taken { Stays (taken parts.old) (taken parts.new) }
-    ensures fewer { Stays (noted parts.new) (noted parts.old) }
-    ensures left { IsWithin (noted parts.new) (taken parts.new) (Some (Item.Record record.now)) }
+    ensures parts { ArePartsOfTable parts.new }
+    ensures taken { MarksStay (lei_marks parts.old) (lei_marks parts.new) }
+    ensures fewer { MarksStay (all_marks parts.new) (all_marks parts.old) }
+    ensures left { MarksAreWithin (all_marks parts.new) (lei_marks parts.new)
+        (Some (Item.Record record.now)) }
 {
     if let Some((authority, id)) = held_key(record) {
         parts.holders.drop_freed(authority, id);
@@ -244,12 +245,13 @@ fn drop_key(parts: &mut Parts, record: &Record)
 }
 
 fn drop_start(parts: &mut Parts, relation: &Relation)
-    requires { AreParts parts.old }
+    requires { ArePartsOfTable parts.old }
     ensures cells { parts.new.cells ≡ parts.old.cells }
-    ensures parts { AreParts parts.new }
-    ensures taken { Stays (taken parts.old) (taken parts.new) }
-    ensures fewer { Stays (noted parts.new) (noted parts.old) }
-    ensures left { IsWithin (noted parts.new) (taken parts.new) (Some (Item.Relation relation.now)) }
+    ensures parts { ArePartsOfTable parts.new }
+    ensures taken { MarksStay (lei_marks parts.old) (lei_marks parts.new) }
+    ensures fewer { MarksStay (all_marks parts.new) (all_marks parts.old) }
+    ensures left { MarksAreWithin (all_marks parts.new) (lei_marks parts.new)
+        (Some (Item.Relation relation.now)) }
 {
     if relation.is_active() {
         parts.ends.drop_freed(&relation.start(), relation.kind());

@@ -2,10 +2,10 @@
 ghost use Rattle.std.specs.Prelude.{◌≡◌, None, IfOk, OnOk, OnErr, IfSome, IsSome, option_map};
 ghost use Rattle.std.specs.FinMap.{get, insert};
 ghost use Rattle.register_table.specs.Cells.{IsOwnCell, cell_in};
-ghost use Rattle.register_table.specs.Held.{IsKept, cell_key, rows};
+ghost use Rattle.register_table.specs.Held.{CanBeKept, cell_key, rows};
 ghost use Rattle.register_table.specs.Indexes.{end_in_index, holder_in, noted_in};
-ghost use Rattle.register_table.specs.Parts.{AreNoted, AreParts, IsMarked, IsNew, Stays, noted, taken};
-ghost use Rattle.register_table.specs.Undos.{with_cell};
+ghost use Rattle.register_table.specs.Parts.{AreNoted, ArePartsOfTable, IsMarked, IsNewItem, MarksStay, all_marks, lei_marks};
+ghost use Rattle.register_table.specs.Undos.{cells_with};
 
 use crate::authority_key_index::AuthorityKeyIndex;
 use crate::cells::CellMap;
@@ -33,17 +33,17 @@ pub struct Note {
 /// Puts a cell under a key, and returns what was held there. If memory runs out, the cells stay as they were.
 pub fn put(parts: &mut Parts, key: RowKey, slot: Slot) -> Result<Option<Slot>, NoMemory>
     requires own { IsOwnCell key slot }
-    requires parts { AreParts parts.old }
-    requires kept { IsKept (rows (insert parts.old.cells (cell_key key) (cell_in slot))) }
+    requires parts { ArePartsOfTable parts.old }
+    requires kept { CanBeKept (rows (insert parts.old.cells (cell_key key) (cell_in slot))) }
     ensures cells { OnOk result (parts.new.cells ≡ insert parts.old.cells (cell_key key) (cell_in slot)) }
     ensures out { IfOk result (λ out. option_map cell_in out ≡ get parts.old.cells (cell_key key)) }
     ensures own { IfOk result (λ out. IfSome out (IsOwnCell key)) }
     ensures err { OnErr result (parts.new.cells ≡ parts.old.cells) }
-    ensures parts { AreParts parts.new }
-    ensures noted { Stays (noted parts.old) (noted parts.new) }
-    ensures taken { Stays (taken parts.old) (taken parts.new) }
+    ensures parts { ArePartsOfTable parts.new }
+    ensures noted { MarksStay (all_marks parts.old) (all_marks parts.new) }
+    ensures taken { MarksStay (lei_marks parts.old) (lei_marks parts.new) }
     ensures room { OnErr result (IsSome (get parts.old.cells (cell_key key))
-        → IsMarked (noted parts.old) slot.item → ⊥) }
+        → IsMarked (all_marks parts.old) slot.item → ⊥) }
 {
     index(&mut parts.holders, &mut parts.ends, &slot.item)?;
     parts.cells.insert(&key, slot)
@@ -57,8 +57,8 @@ fn index(
 ) -> Result<(), NoMemory>
     ensures ok { OnOk result (AreNoted item.now holders.old ends.old holders.new ends.new) }
     ensures err { OnErr result (AreNoted None holders.old ends.old holders.new ends.new) }
-    ensures noted { Stays (noted_in holders.old ends.old) (noted_in holders.new ends.new) }
-    ensures absent { OnErr result (IsNew item.now holders.old ends.old) }
+    ensures noted { MarksStay (noted_in holders.old ends.old) (noted_in holders.new ends.new) }
+    ensures absent { OnErr result (IsNewItem item.now holders.old ends.old) }
 {
     match item {
         Some(Item::Record(record)) => holders.put(record),
@@ -70,14 +70,14 @@ fn index(
 /// Puts back what was held under a key, and returns what the key had until now. Nothing is allocated.
 pub fn put_back(parts: &mut Parts, key: RowKey, slot: Option<Slot>) -> Option<Slot>
     requires own { IfSome slot (IsOwnCell key) }
-    requires parts { AreParts parts.old }
-    requires kept { IsKept (rows (with_cell parts.old.cells (cell_key key) (option_map cell_in slot))) }
+    requires parts { ArePartsOfTable parts.old }
+    requires kept { CanBeKept (rows (cells_with parts.old.cells (cell_key key) (option_map cell_in slot))) }
     requires here { IsSome (get parts.old.cells (cell_key key)) }
-    requires marked { IfSome slot (λ slot. IsMarked (noted parts.old) slot.item) }
-    ensures cells { parts.new.cells ≡ with_cell parts.old.cells (cell_key key) (option_map cell_in slot) }
+    requires marked { IfSome slot (λ slot. IsMarked (all_marks parts.old) slot.item) }
+    ensures cells { parts.new.cells ≡ cells_with parts.old.cells (cell_key key) (option_map cell_in slot) }
     ensures out { option_map cell_in result ≡ get parts.old.cells (cell_key key) }
-    ensures parts { AreParts parts.new }
-    ensures noted { Stays (noted parts.old) (noted parts.new) }
+    ensures parts { ArePartsOfTable parts.new }
+    ensures noted { MarksStay (all_marks parts.old) (all_marks parts.new) }
 {
     match slot {
         Some(slot) => match put(parts, key, slot) {

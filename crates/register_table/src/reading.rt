@@ -3,7 +3,7 @@ ghost use Rattle.std.specs.Prelude.{◌≡◌, Some, None, if◌then◌else◌, 
 ghost use Rattle.lei_records.specs.Tables;
 ghost use Rattle.lei_records.specs.Tables.{active_of, holder_of, relation_row, row_at};
 ghost use Rattle.register_table.specs.Held.{rows};
-ghost use Rattle.register_table.specs.Parts.{AreParts};
+ghost use Rattle.register_table.specs.Parts.{ArePartsOfTable};
 ghost use Rattle.register_table.specs.Reading.{is_active_row, record_row, relation_row_in, row_holds};
 
 use crate::parts::Parts;
@@ -46,7 +46,7 @@ impl Parts {
 
     /// The LEI of the live record that has an authority key: the record that took it last, if it still has it.
     pub fn holder(&self, authority: &str, id: &str) -> Option<Lei>
-        requires { AreParts self.now }
+        requires { ArePartsOfTable self.now }
         ensures { result ≡ holder_of (rows self.now.cells) authority.now id.now }
     {
         match self.holders.get(authority, id) {
@@ -57,7 +57,7 @@ impl Parts {
 
     /// The end of the active relationship of a start and a type: the one that was last noted, if it still is active.
     pub fn active(&self, start: &Lei, kind: RelationType) -> Option<Lei>
-        requires { AreParts self.now }
+        requires { ArePartsOfTable self.now }
         ensures { result ≡ active_of (rows self.now.cells) start.now kind }
     {
         match self.ends.get(start, kind) {

@@ -3,7 +3,7 @@ ghost use Rattle.std.specs.Prelude.{ℕ, ◌+◌, ◌<◌, ◌≤◌, ◌≡◌,
 ghost use Rattle.std.specs.List.{All};
 ghost use Rattle.lei_records.specs.Tables.{KeyTexts};
 ghost use Rattle.register_table.specs.Held.{Held};
-ghost use Rattle.register_table.specs.Stamps.{AreInOrder, AreStamped, NoneFrom};
+ghost use Rattle.register_table.specs.Stamps.{AreStamped, NoneFrom, StampsDontFall};
 ghost use Rattle.register_table.specs.Undos.{IsLater, touch_all};
 
 use lei_records::{Item, RowKey};
@@ -18,9 +18,9 @@ pub struct Stamp {
 /// Appends stamps of the writes of an entry to those of earlier entries. There must be capacity for them. Stamps with
 /// its number or a greater one are of writes that were undone, and are removed.
 pub fn stamp_writes(stamps: &mut Vec<Stamp>, writes: &[(RowKey, Option<Item>)], entry: u64)
-    requires order { AreInOrder stamps.old.items }
+    requires order { StampsDontFall stamps.old.items }
     requires room { vec_len stamps.old + length writes.now ≤ vec_capacity stamps.old }
-    ensures order { AreInOrder stamps.new.items }
+    ensures order { StampsDontFall stamps.new.items }
     ensures before { (held : Held) → IsLater entry held → AreStamped stamps.old.items held
         → AreStamped stamps.new.items held }
     ensures after { (held : Held) → IsLater entry held → AreStamped stamps.old.items held
@@ -37,8 +37,8 @@ pub fn stamp_writes(stamps: &mut Vec<Stamp>, writes: &[(RowKey, Option<Item>)], 
 
 // Removes the stamps with this number or a greater one.
 fn drop_from(stamps: &mut Vec<Stamp>, entry: u64)
-    requires order { AreInOrder stamps.old.items }
-    ensures order { AreInOrder stamps.new.items }
+    requires order { StampsDontFall stamps.old.items }
+    ensures order { StampsDontFall stamps.new.items }
     ensures below { All (λ (stamp : Stamp). stamp.entry < entry) stamps.new.items }
     ensures kept { (held : Held) → IsLater entry held → AreStamped stamps.old.items held
         → AreStamped stamps.new.items held }
@@ -53,7 +53,7 @@ fn drop_from(stamps: &mut Vec<Stamp>, entry: u64)
 
 /// The stamps whose numbers are greater than `after` and at most `upto`.
 pub fn stamps_within(stamps: &[Stamp], after: u64, upto: u64) -> &[Stamp]
-    requires order { AreInOrder stamps.now }
+    requires order { StampsDontFall stamps.now }
     ensures whole { (entry : ℕ) (key : KeyTexts) → after < entry → entry ≤ upto
         → NoneFrom 0 result.now entry key → NoneFrom 0 stamps.now entry key }
     ensures range { All (λ (stamp : Stamp). (after < stamp.entry) × (stamp.entry ≤ upto)) result.now }

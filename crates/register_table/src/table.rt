@@ -3,11 +3,11 @@ ghost use Rattle.std.specs.Prelude.{◌≡◌, ◌↔◌, ℕ, ◌+◌, [], Some
 ghost use Rattle.std.specs.FinMap.{empty, len};
 ghost use Rattle.cell_reads.specs.Reads.{Agrees};
 ghost use Rattle.fetched_cells.specs.Fetching.{HasJust, fetched_keys};
-ghost use Rattle.fetched_cells.specs.Maps.{cells_in};
+ghost use Rattle.fetched_cells.specs.Maps.{fetched_view};
 ghost use Rattle.lei_records.specs.Tables.{cells_of, put_all, record_count, row_at};
 ghost use Rattle.register_table.specs.Cells.{AreOwnItems};
-ghost use Rattle.register_table.specs.Held.{IsKept, no_rows, rows};
-ghost use Rattle.register_table.specs.Touched.{shown, touched};
+ghost use Rattle.register_table.specs.Held.{CanBeKept, no_rows, rows};
+ghost use Rattle.register_table.specs.Touched.{cell_under_key, touched};
 ghost use Rattle.register_table.specs.Undos.{IsLater, MayApply, touch_all};
 
 use crate::authority_key_index::AuthorityKeyIndex;
@@ -41,9 +41,9 @@ pub struct Table {
 impl Model for Table {
     ghost use Rattle.std.specs.Prelude.{IfSome, map, option_map};
     ghost use Rattle.register_table.specs.Held.{TableState, state_code};
-    ghost use Rattle.register_table.specs.Parts.{AreParts, CanBeUndone, note_of, noted};
-    ghost use Rattle.register_table.specs.Stamps.{AreInOrder, AreStamped};
-    ghost use Rattle.register_table.specs.Undos.{undone};
+    ghost use Rattle.register_table.specs.Parts.{ArePartsOfTable, CanBeUndone, all_marks, note_cell};
+    ghost use Rattle.register_table.specs.Stamps.{AreStamped, StampsDontFall};
+    ghost use Rattle.register_table.specs.Undos.{cells_before};
 
     ghost Value = { TableState };
 
@@ -51,14 +51,14 @@ impl Model for Table {
 
     ghost view = { λ table. record {
       held = table.parts.cells;
-      before = option_map (λ notes. undone (map note_of notes.items) table.parts.cells) table.last;
+      before = option_map (λ notes. cells_before (map note_cell notes.items) table.parts.cells) table.last;
     } };
 
-    ghost invariant = { λ table. AreParts table.parts
-        × IfSome table.last (λ notes. CanBeUndone (noted table.parts) notes.items table.parts.cells)
-        × AreInOrder table.stamps.items × AreStamped table.stamps.items table.parts.cells
+    ghost invariant = { λ table. ArePartsOfTable table.parts
+        × IfSome table.last (λ notes. CanBeUndone (all_marks table.parts) notes.items table.parts.cells)
+        × StampsDontFall table.stamps.items × AreStamped table.stamps.items table.parts.cells
         × IfSome table.last (λ notes. AreStamped table.stamps.items
-        (undone (map note_of notes.items) table.parts.cells)) };
+        (cells_before (map note_cell notes.items) table.parts.cells)) };
 }
 
 impl View for Table {
@@ -171,7 +171,8 @@ impl Table {
     /// Each key that was last touched by an entry whose number is greater than `after` and at most `upto`, ordered by
     /// kind and key. Each has the item that is held under it, or none after a withdrawal.
     pub fn touched(&self, after: u64, upto: u64) -> Result<Vec<Touched>, NoMemory>
-        ensures told { IfOk result (λ list. map shown list.items ≡ touched after upto self.now.held) }
+        ensures told { IfOk result
+            (λ list. map cell_under_key list.items ≡ touched after upto self.now.held) }
         ensures own { IfOk result (λ list. AreOwnItems list.items) }
     {
         let stamps = stamps_within(self.stamps.as_slice(), after, upto);
@@ -181,7 +182,7 @@ impl Table {
     /// The number of records.
     pub fn held(&self) -> u32
         ensures count { result ≡ record_count (rows self.now.held) }
-        ensures kept { IsKept (rows self.now.held) }
+        ensures kept { CanBeKept (rows self.now.held) }
     {
         self.parts.cells.counts().records as u32
     }
@@ -208,7 +209,7 @@ impl Table {
     /// direct parents are those from it on, up to 200 members. The first `most` of all these cells are fetched. A cell
     /// that occurs twice counts twice.
     pub fn fetch(&self, keys: &[CellKey], most: u32) -> Result<Fetched, NoMemory>
-        ensures { IfOk result (λ fetched. HasJust (cells_in fetched) (cells_of (rows self.now.held))
+        ensures { IfOk result (λ fetched. HasJust (fetched_view fetched) (cells_of (rows self.now.held))
             (take most (fetched_keys (cells_of (rows self.now.held)) keys.now))) }
     {
         fetched_cells::fetch(self.alloc, self, keys, most)

@@ -1,6 +1,6 @@
 //! What entries touched.
 ghost use Rattle.std.specs.Prelude.{◌≡◌, ◌++◌, ◌∷◌, [], ◌&&◌, IfOk, if◌then◌else◌, nat_lt, nat_le};
-ghost use Rattle.register_table.specs.Touched.{shown};
+ghost use Rattle.register_table.specs.Touched.{cell_under_key};
 ghost use Rattle.register_table.specs.Cells.{IsItemOf, IsOwnCell, cell_in};
 ghost use Rattle.register_table.specs.Held.{cell_key};
 ghost use Rattle.register_table.specs.Touched.{is_touched};
@@ -27,7 +27,7 @@ pub fn is_within(slot: &Slot, after: u64, upto: u64) -> bool
 
 /// A slot under its key. The item in the result shares its texts with the slot.
 pub fn touched_of(key: &RowKey, slot: &Slot) -> Result<Touched, NoMemory>
-    ensures shown { IfOk result (λ touched. shown touched ≡ (cell_key key.now, cell_in slot.now)) }
+    ensures shown { IfOk result (λ touched. cell_under_key touched ≡ (cell_key key.now, cell_in slot.now)) }
     ensures own { IsOwnCell key.now slot.now → IfOk result (λ touched. IsItemOf touched.key touched.item) }
 {
     Ok(Touched {

@@ -3,10 +3,10 @@ ghost use Rattle.std.specs.Prelude.{◌≡◌, ◌+◌, ◌<◌, ◌≤◌, [], 
 ghost use Rattle.std.specs.FinMap.{get};
 ghost use Rattle.lei_records.specs.Tables;
 ghost use Rattle.register_table.specs.Cells.{cell_in};
-ghost use Rattle.register_table.specs.Held.{IsKept, cell_key, rows};
-ghost use Rattle.register_table.specs.Parts.{AreParts, CanBeUndone, IsNoteOf, Stays, note_of, noted, taken};
+ghost use Rattle.register_table.specs.Held.{CanBeKept, cell_key, rows};
+ghost use Rattle.register_table.specs.Parts.{ArePartsOfTable, CanBeUndone, MarksStay, NotesCell, all_marks, lei_marks, note_cell};
 ghost use Rattle.register_table.specs.Undos;
-ghost use Rattle.register_table.specs.Undos.{AreOwn, IsOwn, StaysKept, cell_of, touch, touch_all, undone};
+ghost use Rattle.register_table.specs.Undos.{AreOwn, IsOwn, StaysKept, cell_with, cells_before, touch, touch_all};
 
 use crate::parts::{Note, Parts, put, put_back};
 use crate::slots::{Slot, share};
@@ -24,15 +24,15 @@ pub fn put_writes(
     notes: &mut Vec<Note>,
 ) -> Result<(), NoMemory>
     requires own { AreOwn writes.now }
-    requires parts { AreParts parts.old }
+    requires parts { ArePartsOfTable parts.old }
     requires kept { StaysKept writes.now (rows parts.old.cells) }
     requires empty { notes.old.items ≡ [] }
     requires room { length writes.now ≤ vec_capacity notes.old }
     ensures cells { OnOk result (parts.new.cells ≡ touch_all entry writes.now parts.old.cells) }
-    ensures parts { AreParts parts.new }
-    ensures back { undone (map note_of notes.new.items) parts.new.cells ≡ parts.old.cells }
-    ensures undoable { CanBeUndone (taken parts.new) notes.new.items parts.new.cells }
-    ensures noted { Stays (noted parts.old) (noted parts.new) }
+    ensures parts { ArePartsOfTable parts.new }
+    ensures back { cells_before (map note_cell notes.new.items) parts.new.cells ≡ parts.old.cells }
+    ensures undoable { CanBeUndone (lei_marks parts.new) notes.new.items parts.new.cells }
+    ensures noted { MarksStay (all_marks parts.old) (all_marks parts.new) }
 {
     for write in writes {
         put_write(alloc, parts, write, entry, notes)?;
@@ -48,16 +48,16 @@ fn put_write(
     notes: &mut Vec<Note>,
 ) -> Result<(), NoMemory>
     requires own { IsOwn write.now }
-    requires parts { AreParts parts.old }
-    requires kept { IsKept (Tables.put_write (rows parts.old.cells) write.now) }
-    requires undoable { CanBeUndone (taken parts.old) notes.old.items parts.old.cells }
+    requires parts { ArePartsOfTable parts.old }
+    requires kept { CanBeKept (Tables.put_write (rows parts.old.cells) write.now) }
+    requires undoable { CanBeUndone (lei_marks parts.old) notes.old.items parts.old.cells }
     requires room { vec_len notes.old < vec_capacity notes.old }
     ensures cells { OnOk result (parts.new.cells ≡ touch entry parts.old.cells write.now) }
-    ensures parts { AreParts parts.new }
-    ensures back { undone (map note_of notes.new.items) parts.new.cells
-        ≡ undone (map note_of notes.old.items) parts.old.cells }
-    ensures undoable { CanBeUndone (taken parts.new) notes.new.items parts.new.cells }
-    ensures noted { Stays (noted parts.old) (noted parts.new) }
+    ensures parts { ArePartsOfTable parts.new }
+    ensures back { cells_before (map note_cell notes.new.items) parts.new.cells
+        ≡ cells_before (map note_cell notes.old.items) parts.old.cells }
+    ensures undoable { CanBeUndone (lei_marks parts.new) notes.new.items parts.new.cells }
+    ensures noted { MarksStay (all_marks parts.old) (all_marks parts.new) }
     ensures capacity { vec_capacity notes.new ≡ vec_capacity notes.old }
     ensures len { vec_len notes.new ≤ vec_len notes.old + 1 }
 {
@@ -82,11 +82,11 @@ fn slot_of(item: &Option<Item>, entry: u64) -> Result<Slot, NoMemory>
 
 /// Puts back what was noted, from the last note to the first, and notes instead what was held. Nothing is allocated.
 pub fn undo_notes(parts: &mut Parts, notes: &mut [Note])
-    requires parts { AreParts parts.old }
-    requires undoable { CanBeUndone (noted parts.old) notes.old parts.old.cells }
-    ensures cells { parts.new.cells ≡ undone (map note_of notes.old) parts.old.cells }
-    ensures parts { AreParts parts.new }
-    ensures noted { Stays (noted parts.old) (noted parts.new) }
+    requires parts { ArePartsOfTable parts.old }
+    requires undoable { CanBeUndone (all_marks parts.old) notes.old parts.old.cells }
+    ensures cells { parts.new.cells ≡ cells_before (map note_cell notes.old) parts.old.cells }
+    ensures parts { ArePartsOfTable parts.new }
+    ensures noted { MarksStay (all_marks parts.old) (all_marks parts.new) }
 {
     let mut left = notes.len();
     while left > 0 {
@@ -96,14 +96,14 @@ pub fn undo_notes(parts: &mut Parts, notes: &mut [Note])
 }
 
 fn undo_note(parts: &mut Parts, note: &mut Note)
-    requires parts { AreParts parts.old }
-    requires note { IsNoteOf (noted parts.old) note.old }
-    requires kept { IsKept (rows (Undos.put_back parts.old.cells (note_of note.old))) }
+    requires parts { ArePartsOfTable parts.old }
+    requires note { NotesCell (all_marks parts.old) note.old }
+    requires kept { CanBeKept (rows (Undos.put_back parts.old.cells (note_cell note.old))) }
     requires here { IsSome (get parts.old.cells (cell_key note.old.key)) }
-    ensures cells { parts.new.cells ≡ Undos.put_back parts.old.cells (note_of note.old) }
+    ensures cells { parts.new.cells ≡ Undos.put_back parts.old.cells (note_cell note.old) }
     ensures out { option_map cell_in note.new.slot ≡ get parts.old.cells (cell_key note.old.key) }
-    ensures parts { AreParts parts.new }
-    ensures noted { Stays (noted parts.old) (noted parts.new) }
+    ensures parts { ArePartsOfTable parts.new }
+    ensures noted { MarksStay (all_marks parts.old) (all_marks parts.new) }
 {
     let slot = note.slot.take();
     note.slot = put_back(parts, note.key, slot);

@@ -2,7 +2,7 @@
 ghost use Rattle.std.specs.Prelude.{◌≡◌, ◌≤◌, [], All, IfOk, IsSomeAnd};
 ghost use Rattle.std.specs.Thread.{IsSync};
 ghost use Rattle.atomic_table.specs.Seated.{TableId};
-ghost use Rattle.register_words.specs.Requests.{IsNumbered, IsUploadNumber};
+ghost use Rattle.register_words.specs.Requests.{HasNumberInRange, IsUploadNumber};
 ghost use Rattle.turnstile.specs.Passes.{AreOf, HaveAll};
 
 use crate::limits::{MOMENT, ONE_RECORD, call};
@@ -30,7 +30,7 @@ fn one_turn_each<K: Keeper, R: Threads + Wait + Sync>(
     requires passes { AreOf hall.now.table passes.items }
     requires all { HaveAll hall.now.passes passes.items }
     requires none { done.items ≡ [] }
-    requires numbered { IsNumbered request.now }
+    requires numbered { HasNumberInRange request.now }
     ensures passes { IfOk result (λ done. AreOf hall.now.table done.items) }
     ensures all { IfOk result (λ done. HaveAll hall.now.passes done.items) }
 {
@@ -121,7 +121,7 @@ fn ask<K: Keeper, R: Threads + Wait + Sync>(
     moment: Moment,
 )
     requires ready { IsSomeAnd worker.old.pass (λ p. p.table ≡ hall.now.table) }
-    requires numbered { IsNumbered request.now }
+    requires numbered { HasNumberInRange request.now }
 {
     let Some(pass) = worker.pass.take() else {
         unreachable!()
@@ -140,14 +140,14 @@ fn ask_at_once<K: Keeper + Send, R: Threads + Wait + Sync>(
     moment: Moment,
 )
     requires ready { All (λ w. IsSomeAnd w.pass (λ p. p.table ≡ hall.now.table)) workers.old }
-    requires numbered { IsNumbered request.now }
+    requires numbered { HasNumberInRange request.now }
 {
     thread::for_each_mut(
         rt,
         workers,
         64,
         &|_: usize, worker: &mut Worker|
-            requires { IsSync R.row × IsNumbered request.now
+            requires { IsSync R.row × HasNumberInRange request.now
                 × IsSomeAnd worker.old.pass (λ p. p.table ≡ hall.now.table) }
         { ask(rt, hall, worker, request, moment) },
     );
@@ -164,7 +164,7 @@ fn are_answered<R: Threads + Wait + Sync>(
     wanted: &[u8],
 ) -> bool
     requires callers { (1 ≤ callers) × (callers ≤ 64) }
-    requires numbered { IsNumbered request.now }
+    requires numbered { HasNumberInRange request.now }
 {
     let office = match Office::open(rt, alloc, SureKeeper::new(alloc), Limits::standard()) {
         Ok(office) => office,

@@ -83,13 +83,13 @@ refusal_number LengthRequired = None
 refusal_number (refusals.Method allowed) = None
 
 -- a space and the number
-abbrev pub behind : Option ℕ → Text
-behind None = []
-behind (Some k) = 32 ∷ decimal k
+abbrev pub number_suffix : Option ℕ → Text
+number_suffix None = []
+number_suffix (Some k) = 32 ∷ decimal k
 
 -- a refusal in words
 abbrev pub refusal_words : Refusal → Text
-refusal_words refusal = refusal_name refusal ++ behind (refusal_number refusal)
+refusal_words refusal = refusal_name refusal ++ number_suffix (refusal_number refusal)
 
 -- ---- replies
 

@@ -11,15 +11,15 @@ abbrev pub IsUploadNumber : ℕ → Type 0
 IsUploadNumber number = IsFrom1To number_limit number
 
 -- if a request takes a new number, of an upload or a publication, it is in its range
-abbrev pub IsNumbered : Request → Type 0
-IsNumbered (Accredit issuer) = Unit {0}
-IsNumbered (Upload call) = IsUploadNumber call.number
-IsNumbered (Kept issuer number) = Unit {0}
-IsNumbered (Publish number) = IsUploadNumber number
-IsNumbered (Show lei) = Unit {0}
-IsNumbered (Copy sheet form) = Unit {0}
-IsNumbered (Delta base sheet form) = Unit {0}
-IsNumbered Status = Unit {0}
+abbrev pub HasNumberInRange : Request → Type 0
+HasNumberInRange (Accredit issuer) = Unit {0}
+HasNumberInRange (Upload call) = IsUploadNumber call.number
+HasNumberInRange (Kept issuer number) = Unit {0}
+HasNumberInRange (Publish number) = IsUploadNumber number
+HasNumberInRange (Show lei) = Unit {0}
+HasNumberInRange (Copy sheet form) = Unit {0}
+HasNumberInRange (Delta base sheet form) = Unit {0}
+HasNumberInRange Status = Unit {0}
 
 -- a request as readers make it: each LEI that it names is one, and its number is in its range
 abbrev pub IsRequest : Request → Type 0

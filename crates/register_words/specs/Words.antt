@@ -9,8 +9,8 @@ use Rattle.register_words.specs.declared.sheets.Sheet.{Sheet}
 use Rattle.register_words.specs.declared.base.Base.{Base}
 
 -- The bytes, if they are an LEI.
-abbrev pub code_of : List ℕ → Option Lei
-code_of bytes = if is_none (fault_of bytes) then Some bytes else None
+abbrev pub lei_from : List ℕ → Option Lei
+lei_from bytes = if is_none (fault_of bytes) then Some bytes else None
 
 -- The number, if it is in this range and the bytes are exactly its decimal text.
 abbrev pub plain_number : ℕ → ℕ → List ℕ → ℕ → Option ℕ
@@ -26,27 +26,27 @@ abbrev pub number_limit : ℕ
 number_limit = 1_000_000
 
 -- The number of an upload or of a publication: from 1 to its limit.
-abbrev pub number_of : List ℕ → Option ℕ
-number_of bytes = number_within 1 number_limit bytes
+abbrev pub number_in_word : List ℕ → Option ℕ
+number_in_word bytes = number_within 1 number_limit bytes
 
 -- The sheet with this name.
-abbrev pub sheet_of : List ℕ → Option Sheet
-sheet_of word =
+abbrev pub sheet_named : List ℕ → Option Sheet
+sheet_named word =
     if bytes_eq word (codes "lei") then Some Sheet.Lei
     else (if bytes_eq word (codes "rr") then Some Sheet.Rr
     else (if bytes_eq word (codes "repex") then Some Sheet.Repex else None))
 
 -- The form with this name.
-abbrev pub form_of : List ℕ → Option Form
-form_of word =
+abbrev pub form_named : List ℕ → Option Form
+form_named word =
     if bytes_eq word (codes "csv") then Some Form.Csv
     else (if bytes_eq word (codes "json") then Some Form.Json else None)
 
 -- The base of a delta that the bytes name: the latest publication that is at least a day, a week or a month old, or the
 -- one with a number.
-abbrev pub base_of : List ℕ → Option Base
-base_of word =
+abbrev pub base_named : List ℕ → Option Base
+base_named word =
     if bytes_eq word (codes "last-day") then Some Base.LastDay
     else (if bytes_eq word (codes "last-week") then Some Base.LastWeek
     else (if bytes_eq word (codes "last-month") then Some Base.LastMonth
-    else option_map Base.Number (number_of word)))
+    else option_map Base.Number (number_in_word word)))

@@ -1,6 +1,6 @@
 // The readings of single words.
 ghost use Rattle.std.specs.Prelude.{◌≡◌, ◌≤◌, ◌↔◌, decimal, IfSome, IsTrue};
-ghost use Rattle.register_words.specs.Words.{base_of, code_of, form_of, number_of, number_within, sheet_of};
+ghost use Rattle.register_words.specs.Words.{base_named, form_named, lei_from, number_in_word, number_within, sheet_named};
 
 use crate::base::Base;
 use crate::sheets::{Form, Sheet};
@@ -11,14 +11,14 @@ pub const MAX_NUMBER: u32 = 1_000_000;
 
 /// The LEI that the word is (ISO 17442-1), with correct check digits.
 pub fn code_of(word: &[u8]) -> Option<Lei>
-    ensures { result ≡ code_of word.now }
+    ensures { result ≡ lei_from word.now }
 {
     Lei::read(word).ok()
 }
 
 /// The number of an upload or of a publication that the word writes, from 1 to [`MAX_NUMBER`].
 pub fn number_of(word: &[u8]) -> Option<u32>
-    ensures { result ≡ number_of word.now }
+    ensures { result ≡ number_in_word word.now }
 {
     number_within(word, 1, MAX_NUMBER)
 }
@@ -56,7 +56,7 @@ fn is_decimal(text: &str, number: u32) -> bool
 
 /// The sheet with this name.
 pub fn sheet_of(word: &[u8]) -> Option<Sheet>
-    ensures { result ≡ sheet_of word.now }
+    ensures { result ≡ sheet_named word.now }
 {
     if word == b"lei".as_slice() {
         return Some(Sheet::Lei);
@@ -72,7 +72,7 @@ pub fn sheet_of(word: &[u8]) -> Option<Sheet>
 
 /// The form with this name.
 pub fn form_of(word: &[u8]) -> Option<Form>
-    ensures { result ≡ form_of word.now }
+    ensures { result ≡ form_named word.now }
 {
     if word == b"csv".as_slice() {
         return Some(Form::Csv);
@@ -85,7 +85,7 @@ pub fn form_of(word: &[u8]) -> Option<Form>
 
 /// The base of a delta that the word names: by its number, or by its least age.
 pub fn base_of(word: &[u8]) -> Option<Base>
-    ensures { result ≡ base_of word.now }
+    ensures { result ≡ base_named word.now }
 {
     if word == b"last-day".as_slice() {
         return Some(Base::LastDay);

@@ -14,11 +14,11 @@ use Rattle.lei_records.specs.Exceptions.{exception_category_in, subject_in}
 use Rattle.lei_records.specs.Checks.{first_failing}
 use Rattle.lei_records.specs.Relations.{end_in, is_active, is_active_of, kind_in, start_in}
 use Rattle.lei_records.specs.Rows.{Row}
-use Rattle.lei_records.specs.Tables.{IsSound, KeyTexts, Table, active_of, exception_key, exception_key_in, has_exception, key_cmp, put}
+use Rattle.lei_records.specs.Tables.{IsSoundTable, KeyTexts, Table, active_of, exception_key, exception_key_in, has_exception, key_cmp, put}
 use Rattle.authority_rules.proofs.HolderLemmas.{keys_total, same_key}
 use Rattle.relation_rules.specs.Checks.{exception_checks, has_own_exception, relation_checks}
 use Rattle.lei_records.specs.Parents.{parent_category, parent_type}
-use Rattle.relation_rules.specs.Parents.{AreApart}
+use Rattle.relation_rules.specs.Parents.{ExceptionsExcludeParents}
 use Rattle.relation_rules.proofs.ActiveLemmas.{active_of-put, either_way, left_of, opened}
 use Rattle.relation_rules.proofs.ChainLemmas.{types_apart}
 use Rattle.lei_records.proofs.OptionLemmas.{none_there}
@@ -29,8 +29,8 @@ category_of_type : (category : ExceptionCategory) → parent_category (parent_ty
 category_of_type ExceptionCategory.DirectAccountingConsolidationParent = refl
 category_of_type ExceptionCategory.UltimateAccountingConsolidationParent = refl
 
-pub relations_keep_apart : (table : Table) (issuer : List ℕ) (row : Row) → IsSound table → AreApart table
-    → first_failing (relation_checks table issuer row) ≡ None → AreApart (put table (Item.Relation row))
+pub relations_keep_apart : (table : Table) (issuer : List ℕ) (row : Row) → IsSoundTable table → ExceptionsExcludeParents table
+    → first_failing (relation_checks table issuer row) ≡ None → ExceptionsExcludeParents (put table (Item.Relation row))
 relations_keep_apart table issuer row sound apart passes lei category stands =
     let all : AllPass (relation_checks table issuer row) = all_pass (relation_checks table issuer row) passes in
     let from_37 = all.others.others.others.others.others.others.others in
@@ -57,8 +57,8 @@ still_there : (b : Bool) (held : Option Row) → is_some (cond b None held) ≡ 
 still_there true held is = cc
 still_there false held is = is
 
-pub exceptions_keep_apart : (table : Table) (issuer : List ℕ) (row : Row) (withdraws : Bool) → AreApart table
-    → first_failing (exception_checks table issuer (row, withdraws)) ≡ None → AreApart (put table (Item.Exception (row, withdraws)))
+pub exceptions_keep_apart : (table : Table) (issuer : List ℕ) (row : Row) (withdraws : Bool) → ExceptionsExcludeParents table
+    → first_failing (exception_checks table issuer (row, withdraws)) ≡ None → ExceptionsExcludeParents (put table (Item.Exception (row, withdraws)))
 exceptions_keep_apart table issuer row true apart passes lei category stands =
     apart lei category (still_there (eq_by_cmp key_cmp (exception_key lei category) (exception_key_in row)) (get table.exceptions (exception_key lei category))
     (ap is_some (sym (get-remove keys_total table.exceptions (exception_key_in row) (exception_key lei category))) ∙ stands))

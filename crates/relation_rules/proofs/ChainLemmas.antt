@@ -13,17 +13,17 @@ use Rattle.lei_records.specs.declared.item.Item.{Item}
 use Rattle.lei_records.specs.Checks.{first_failing}
 use Rattle.lei_records.specs.Relations.{end_in, is_active, is_active_of, kind_in, start_in}
 use Rattle.lei_records.specs.Rows.{Row}
-use Rattle.lei_records.specs.Tables.{IsSound, Table, put}
+use Rattle.lei_records.specs.Tables.{IsSoundTable, Table, put}
 use Rattle.authority_rules.proofs.HolderLemmas.{bytes_same}
 use Rattle.authority_rules.proofs.PutLemmas.{other_than}
 use Rattle.successor_rules.specs.declared.walks.Walked.{Walked}
 use Rattle.successor_rules.specs.Chains.{AllEnd, IsTurned}
 use Rattle.lei_records.specs.Walks.{is_long, is_met}
-use Rattle.successor_rules.specs.Walks.{walked}
+use Rattle.successor_rules.specs.Walks.{walk_end}
 use Rattle.successor_rules.proofs.ChainLemmas.{keeps_ends}
 use Rattle.successor_rules.proofs.WalkLemmas.{ended_walk_keeps_ends}
 use Rattle.relation_rules.specs.Checks.{c37, is_direct_parent, is_from, other_end, relation_checks}
-use Rattle.lei_records.specs.Parents.{is_direct, parent_of, parents_of}
+use Rattle.lei_records.specs.Parents.{is_direct_type, parent_of, parents_of}
 use Rattle.relation_rules.specs.Parents.{ParentChainsEnd}
 use Rattle.relation_rules.proofs.ActiveLemmas.{active_of-put, closed, left_of, opened, same_bytes}
 use Rattle.lei_records.proofs.PassLemmas.{AllPass, all_pass}
@@ -34,7 +34,7 @@ use Rattle.relation_rules.proofs.PutLemmas.{fitting}
 pub types_apart : (a b : RelationType) → relation_type_text a ≡ relation_type_text b → a ≡ b
 types_apart = texts_apart relation_type_text relation_type_of relation_type_of-text
 
-direct_is : (kind : RelationType) → is_direct kind ≡ true → kind ≡ RelationType.IsDirectlyConsolidatedBy
+direct_is : (kind : RelationType) → is_direct_type kind ≡ true → kind ≡ RelationType.IsDirectlyConsolidatedBy
 direct_is RelationType.IsDirectlyConsolidatedBy is = refl
 direct_is RelationType.IsUltimatelyConsolidatedBy is = cc
 direct_is RelationType.IsInternationalBranchOf is = cc
@@ -66,7 +66,7 @@ left_either P true own (Some end) same none =
 abbrev direct : RelationType
 direct = RelationType.IsDirectlyConsolidatedBy
 
-module _ (table : Table) (row : Row) (sound : IsSound table) (passes : (c37 (other_end table row) row).fails ≡ false) where
+module _ (table : Table) (row : Row) (sound : IsSoundTable table) (passes : (c37 (other_end table row) row).fails ≡ false) where
   put_by : (lei : List ℕ) → parent_of (put table (Item.Relation row)) lei
       ≡ cond (is_active_of lei direct row) (Some (end_in row)) (left_of lei direct row (parent_of table lei))
   put_by lei = active_of-put table row lei direct sound.relations_keyed sound.actives (fitting table row passes)
@@ -84,7 +84,7 @@ module _ (table : Table) (row : Row) (sound : IsSound table) (passes : (c37 (oth
 
   -- a direct parent makes its start name its end
   with_parent : AllEnd (parents_of table) → is_direct_parent row ≡ true
-      → walked (parent_of table) (start_in row) (end_in row) ≡ Walked.Ends → AllEnd (parents_of (put table (Item.Relation row)))
+      → walk_end (parent_of table) (start_in row) (end_in row) ≡ Walked.Ends → AllEnd (parents_of (put table (Item.Relation row)))
   with_parent all is ends =
       let parts = and_parts (is_active row) _ is in
       let kind : kind_in row ≡ direct = direct_is (kind_in row) parts.1 in
@@ -114,7 +114,7 @@ module _ (table : Table) (row : Row) (sound : IsSound table) (passes : (c37 (oth
       let not_active : is_active_of start direct row ≡ false =
       false_from_ne_true _ (λ t.
       let a = opened start direct row t in
-      let kind : is_direct (kind_in row) ≡ true = ap is_direct (types_apart (kind_in row) direct a.types) in
+      let kind : is_direct_type (kind_in row) ≡ true = ap is_direct_type (types_apart (kind_in row) direct a.types) in
       both_ways _ not_direct (and_from _ _ a.active kind)) in
       let here : parent_of (put table (Item.Relation row)) start ≡ left_of start direct row (parent_of table start) =
       put_by start ∙ ap (λ b. cond b (Some (end_in row)) (left_of start direct row (parent_of table start))) not_active in
@@ -123,7 +123,7 @@ module _ (table : Table) (row : Row) (sound : IsSound table) (passes : (c37 (oth
       (λ none. keeps_ends (parents_of table) (parents_of (put table (Item.Relation row))) start [] 0 all
       (turned [] (ap option_to_list (here ∙ none))) (λ target at. absurd (no_member target at)))
 
-pub keeps_parents : (table : Table) (issuer : List ℕ) (row : Row) → IsSound table → ParentChainsEnd table
+pub keeps_parents : (table : Table) (issuer : List ℕ) (row : Row) → IsSoundTable table → ParentChainsEnd table
     → first_failing (relation_checks table issuer row) ≡ None → ParentChainsEnd (put table (Item.Relation row))
 keeps_parents table issuer row sound has passes =
     let all : AllPass (relation_checks table issuer row) = all_pass (relation_checks table issuer row) passes in
@@ -132,7 +132,7 @@ keeps_parents table issuer row sound has passes =
       | true ↦ λ t.
           let met : is_met (parent_of table) (start_in row) (end_in row) ≡ false = other_false _ _ from_37.others.first t in
           let long : is_long (parent_of table) (end_in row) ≡ false = other_false _ _ from_37.others.others.first t in
-          let ends : walked (parent_of table) (start_in row) (end_in row) ≡ Walked.Ends =
+          let ends : walk_end (parent_of table) (start_in row) (end_in row) ≡ Walked.Ends =
           λ i. cond (met i) Walked.Meets (cond (long i) Walked.Long Walked.Ends) in
           record { ends = with_parent table row sound from_37.first has.ends t ends }
       | false ↦ λ f. record { ends = without_parent table row sound from_37.first has.ends f }

@@ -21,7 +21,7 @@ use Rattle.lei_records.specs.Walks.{is_long, is_met}
 use Rattle.relation_rules.specs.declared.checked.Checked.{Checked}
 use Rattle.relation_rules.specs.Checks.{c30, c31, c32, c33, c34, c35, c36, c37, c38, c39, c40, c50, c51, c52, c53, exception_checks, has_own_exception, other_end, relation_checks}
 use Rattle.relation_rules.specs.Checking.{check_active, check_category, check_end, check_exception, check_held, check_managed, check_other_end, check_parents, check_relation, check_start, check_subject, check_walked, check_withdrawal, checked_of, on_seen, unless_failed, walk_parents}
-use Rattle.lei_records.specs.Parents.{is_direct, parent_category, parent_of, parent_type}
+use Rattle.lei_records.specs.Parents.{is_direct_type, parent_category, parent_of, parent_type}
 use Rattle.relation_rules.proofs.ActiveLemmas.{other_end-is}
 use Rattle.relation_rules.proofs.ParentLemmas.{walk_parents-over_table}
 
@@ -101,16 +101,16 @@ from_active table item actives =
     let walks : walk_parents cells (start_in item) (end_in item) ≡ walked_by met long = walk_parents-over_table table (start_in item) (end_in item) in
     let last = category_by table item (parent_category (kind_in item)) in
     let parents : check_parents cells item
-    ≡ cond (is_direct (kind_in item)) (check_walked 38 39 (walked_by met long) (checked_of (first_failing (c40 (has_own_exception table item) item ∷ []))))
+    ≡ cond (is_direct_type (kind_in item)) (check_walked 38 39 (walked_by met long) (checked_of (first_failing (c40 (has_own_exception table item) item ∷ []))))
     (checked_of (first_failing (c40 (has_own_exception table item) item ∷ []))) =
-    λ i. cond (is_direct (kind_in item)) (check_walked 38 39 (walks i) (last i)) (last i) in
+    λ i. cond (is_direct_type (kind_in item)) (check_walked 38 39 (walks i) (last i)) (last i) in
     let key = CellKey.Act (start_in item) (kind_in item) in
     let seen_end : unless_own (end_in item) (seen (active_of table (start_in item) (kind_in item))) ≡ seen (other_end table item) =
     sym (seen_other (end_in item) (active_of table (start_in item) (kind_in item))) ∙ ap seen (other_end-is table item actives) in
     (λ i. cond active (on_seen (seen_end i) key (check_other_end cells item)) Checked.Passes)
     ∙ ((λ i. cond active (on_held (other_end table item) key (check_other_end cells item) i) Checked.Passes)
     ∙ ((λ i. cond active (unless_failed (first_failing (c37 (other_end table item) item ∷ [])) (parents i)) Checked.Passes)
-    ∙ by_order active (is_direct (kind_in item)) (other_end table item) met long (has_own_exception table item)))
+    ∙ by_order active (is_direct_type (kind_in item)) (other_end table item) met long (has_own_exception table item)))
 
 -- ---- C30 and the checks after it
 

@@ -19,12 +19,12 @@ use Rattle.lei_records.specs.Rows.{Row}
 use Rattle.lei_records.proofs.FindLemmas.{find-member, find-passes}
 use Rattle.authority_rules.specs.Taken.{unless_own}
 use Rattle.successor_rules.specs.declared.walks.Walked.{Walked}
-use Rattle.lei_records.specs.Walks.{is_long, is_met, members}
-use Rattle.successor_rules.specs.Walks.{SeenNext, is_missing, known, lacking, unless_lacking}
+use Rattle.lei_records.specs.Walks.{is_long, is_met, walk_members}
+use Rattle.successor_rules.specs.Walks.{SeenNext, is_unknown, known_next, lacking, unless_lacking}
 use Rattle.relation_rules.specs.declared.checked.Checked.{Checked}
 use Rattle.relation_rules.specs.Checking.{check_active, check_category, check_end, check_exception, check_held, check_managed, check_other_end, check_parents, check_put, check_relation, check_start, check_subject, check_walked, check_withdrawal, checked_of, on_seen, unless_failed, walk_parents}
 use Rattle.relation_rules.specs.Needs.{IsNeeded, exception_keys, exception_names, is_lacking, lacks, relation_names}
-use Rattle.lei_records.specs.Parents.{is_direct, parent_category, parent_type}
+use Rattle.lei_records.specs.Parents.{is_direct_type, parent_category, parent_type}
 
 -- ---- what reports a missing cell
 
@@ -66,7 +66,7 @@ own_lacking own Seen.Missing = refl
 own_lacking own (Seen.Held lei) =
     elim (bytes_eq lei own) as (λ b. is_lacking (cond b Seen.Empty (Seen.Held lei)) ≡ false) [ true ↦ refl | false ↦ refl ]
 
-missing_is : (seen : Seen (List ℕ)) → is_missing seen ≡ is_lacking seen
+missing_is : (seen : Seen (List ℕ)) → is_unknown seen ≡ is_lacking seen
 missing_is (Seen.Held lei) = refl
 missing_is Seen.Empty = refl
 missing_is Seen.Missing = refl
@@ -108,13 +108,13 @@ module _ (cells : Cells) (item : Row) (key : CellKey) where
       lacking same)
       (λ stands never. absurd (never_told _ key never))
 
-  of_walk_told : is_active item ≡ true → is_direct (kind_in item) ≡ true → walk_parents cells (start_in item) (end_in item) ≡ Walked.Missing key → Told
+  of_walk_told : is_active item ≡ true → is_direct_type (kind_in item) ≡ true → walk_parents cells (start_in item) (end_in item) ≡ Walked.Missing key → Told
   of_walk_told active direct is =
       let answers : SeenNext = λ lei. cells.active lei RelationType.IsDirectlyConsolidatedBy in
       let own : List ℕ → CellKey = λ lei. CellKey.Act lei RelationType.IsDirectlyConsolidatedBy in
-      let found = lacked own (is_met (known answers) (start_in item) (end_in item)) (lacking answers (end_in item)) (is_long (known answers) (end_in item)) key is in
-      let test : List ℕ → Bool = λ lei. is_missing (answers lei) in
-      let all = members 200 (known answers) (end_in item) in
+      let found = lacked own (is_met (known_next answers) (start_in item) (end_in item)) (lacking answers (end_in item)) (is_long (known_next answers) (end_in item)) key is in
+      let test : List ℕ → Bool = λ lei. is_unknown (answers lei) in
+      let all = walk_members 200 (known_next answers) (end_in item) in
       let lacking : lacks cells (own found.0) ≡ true = sym (missing_is (answers found.0)) ∙ find-passes test all found.0 found.1 in (
         ap (lacks cells) (sym found.2) ∙ lacking,
         inr (record { direct = and_from _ _ active direct; member = found.0; stands = find-member test all found.0 found.1; is = sym found.2 }),
@@ -122,7 +122,7 @@ module _ (cells : Cells) (item : Row) (key : CellKey) where
 
   parents_told : is_active item ≡ true → check_parents cells item ≡ Checked.Missing key → Told
   parents_told active is =
-      elim (is_direct (kind_in item)) as (λ b. is_direct (kind_in item) ≡ b
+      elim (is_direct_type (kind_in item)) as (λ b. is_direct_type (kind_in item) ≡ b
       → cond b (check_walked 38 39 (walk_parents cells (start_in item) (end_in item)) (check_category cells item (parent_category (kind_in item))))
       (check_category cells item (parent_category (kind_in item))) ≡ Checked.Missing key → Told) [
         | true ↦ λ direct told. walk_told (walk_parents cells (start_in item) (end_in item)) _ key Told told

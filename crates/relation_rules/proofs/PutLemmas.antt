@@ -5,7 +5,7 @@ use Rattle.lei_records.specs.declared.item.Item.{Item}
 use Rattle.lei_records.specs.Relations.{end_in, is_active}
 use Rattle.lei_records.specs.Rows.{Row}
 use Rattle.lei_records.specs.Spelled.{IsRelationRow}
-use Rattle.lei_records.specs.Tables.{AreRelationsKeyed, HasRelationRows, IsSound, Table, put, relation_key_in, relations_of}
+use Rattle.lei_records.specs.Tables.{AreRelationsKeyed, HasRelationRows, IsSoundTable, Table, put, relation_key_in, relations_of}
 use Rattle.lei_records.proofs.OptionLemmas.{none_where, some_mapped}
 use Rattle.relation_rules.specs.Checks.{c37, is_in_the_way, other_end}
 use Rattle.relation_rules.proofs.ActiveLemmas.{HasActives-put, IsFitting, split, with_relation}
@@ -24,9 +24,9 @@ HasRelationRows-put : (table : Table) (row : Row) → IsRelationRow row → HasR
 HasRelationRows-put table row is_row rows key other at =
     split table row key other (IsRelationRow other) at (λ _ same. subst IsRelationRow same is_row) (λ _ was. rows key other was)
 
-pub IsSound-put_relation : (table : Table) (row : Row) → IsSound table → IsRelationRow row → (c37 (other_end table row) row).fails ≡ false
-    → IsSound (put table (Item.Relation row))
-IsSound-put_relation table row sound is_row passes = record {
+pub IsSoundTable-put_relation : (table : Table) (row : Row) → IsSoundTable table → IsRelationRow row → (c37 (other_end table row) row).fails ≡ false
+    → IsSoundTable (put table (Item.Relation row))
+IsSoundTable-put_relation table row sound is_row passes = record {
   keyed = sound.keyed;
   holders = sound.holders;
   rows = sound.rows;

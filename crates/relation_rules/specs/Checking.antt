@@ -12,7 +12,7 @@ use Rattle.lei_records.specs.declared.view.Seen.{Seen}
 use Rattle.lei_records.specs.Cells.{Cells}
 use Rattle.lei_records.specs.Checks.{FailedCheck, first_failing}
 use Rattle.lei_records.specs.Exceptions.{exception_category_in, subject_in}
-use Rattle.lei_records.specs.Parents.{is_direct, parent_category, parent_type}
+use Rattle.lei_records.specs.Parents.{is_direct_type, parent_category, parent_type}
 use Rattle.lei_records.specs.Relations.{end_in, is_active, kind_in, start_in}
 use Rattle.lei_records.specs.Rows.{Row}
 use Rattle.authority_rules.specs.Taken.{unless_own}
@@ -29,8 +29,8 @@ checked_of None = Checked.Passes
 checked_of (Some check) = Checked.Fails check
 
 -- A check that fails and reports nothing but its number.
-abbrev pub failed : ℕ → Checked
-failed number = Checked.Fails (record { number = number; detail = Detail.None })
+abbrev pub check_failure : ℕ → Checked
+check_failure number = Checked.Fails (record { number = number; detail = Detail.None })
 
 -- The check that failed, or the result of those after it.
 abbrev pub unless_failed : Option FailedCheck → Checked → Checked
@@ -46,8 +46,8 @@ on_seen Seen.Missing key next = Checked.Missing key
 -- The check with the first number fails if a walk comes back to its start, and the one with the second if it is too
 -- long.
 abbrev pub check_walked : ℕ → ℕ → Walked → Checked → Checked
-check_walked cycle long Walked.Meets next = failed cycle
-check_walked cycle long Walked.Long next = failed long
+check_walked cycle long Walked.Meets next = check_failure cycle
+check_walked cycle long Walked.Long next = check_failure long
 check_walked cycle long Walked.Ends next = next
 check_walked cycle long (Walked.Missing key) next = Checked.Missing key
 
@@ -70,7 +70,7 @@ walk_parents cells start first =
 -- C38 to C40 of an active relationship, by its type.
 abbrev pub check_parents : Cells → Row → Checked
 check_parents cells item =
-    if is_direct (kind_in item)
+    if is_direct_type (kind_in item)
     then check_walked 38 39 (walk_parents cells (start_in item) (end_in item))
     (check_category cells item (parent_category (kind_in item)))
     else check_category cells item (parent_category (kind_in item))

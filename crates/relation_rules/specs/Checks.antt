@@ -10,12 +10,12 @@ use Rattle.lei_records.specs.declared.view.RecCell.{RecCell}
 use Rattle.lei_records.specs.declared.view.RelCell.{RelCell}
 use Rattle.lei_records.specs.Checks.{Finding, code_detail, fails_if}
 use Rattle.lei_records.specs.Exceptions.{exception_category_in, subject_in}
-use Rattle.lei_records.specs.Parents.{is_direct, parent_category, parent_of, parent_type}
+use Rattle.lei_records.specs.Parents.{is_direct_type, parent_category, parent_of, parent_type}
 use Rattle.lei_records.specs.Relations.{end_in, ended_in, is_active, is_active_of, is_same_type, kind_in, registration_in, relation_initial_in, relation_manager_in, relation_updated_in, start_in, started_in}
 use Rattle.lei_records.specs.Rows.{Row}
 use Rattle.lei_records.specs.Tables.{Table, active_of, has_exception, record_of, relation_of, relations_of}
 use Rattle.lei_records.specs.Walks.{Next, is_long, is_met}
-use Rattle.relation_rules.specs.Statuses.{is_over, may_follow}
+use Rattle.relation_rules.specs.Statuses.{is_over, status_may_follow}
 
 -- ---- a relationship alone
 
@@ -82,7 +82,7 @@ c35 start item =
 -- ANNULLED.
 abbrev pub c36 : Option RelCell → Row → Finding
 c36 held item =
-    fails_if (not (may_follow (option_map (λ cell. cell.registration) held) (registration_in item))
+    fails_if (not (status_may_follow (option_map (λ cell. cell.registration) held) (registration_in item))
     || is_active item && is_over (registration_in item)) 36 Detail.None
 
 -- The relationship has this start and this type.
@@ -106,7 +106,7 @@ c37 other item = fails_if (is_active item && is_some other) 37 (code_detail othe
 
 -- The item is an active direct parent.
 abbrev pub is_direct_parent : Row → Bool
-is_direct_parent item = is_active item && is_direct (kind_in item)
+is_direct_parent item = is_active item && is_direct_type (kind_in item)
 
 -- C38 fails if the item is an ACTIVE direct parent, and one of the first 200 members after its start is the start.
 abbrev pub c38 : Next → Row → Finding

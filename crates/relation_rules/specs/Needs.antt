@@ -11,8 +11,8 @@ use Rattle.lei_records.specs.Exceptions.{exception_category_in, subject_in}
 use Rattle.lei_records.specs.Parents.{parent_category, parent_type}
 use Rattle.lei_records.specs.Relations.{end_in, kind_in, start_in}
 use Rattle.lei_records.specs.Rows.{Row}
-use Rattle.lei_records.specs.Walks.{members}
-use Rattle.successor_rules.specs.Walks.{known}
+use Rattle.lei_records.specs.Walks.{walk_members}
+use Rattle.successor_rules.specs.Walks.{known_next}
 use Rattle.relation_rules.specs.Checks.{is_direct_parent}
 
 -- The view doesn't know what the cell has.
@@ -49,7 +49,7 @@ pub record IsOfWalk (cells : Cells) (item : Row) (key : CellKey) : Type 0 where
   pub direct : IsTrue (is_direct_parent item)
   pub member : Lei
   pub stands :
-      Contains (members 200 (known (λ lei. cells.active lei RelationType.IsDirectlyConsolidatedBy))
+      Contains (walk_members 200 (known_next (λ lei. cells.active lei RelationType.IsDirectlyConsolidatedBy))
       (end_in item)) member
   pub is : key ≡ CellKey.Act member RelationType.IsDirectlyConsolidatedBy
 

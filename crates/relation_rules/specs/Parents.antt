@@ -11,6 +11,6 @@ pub record ParentChainsEnd (table : Table) : Type 0 where
   pub ends : AllEnd (parents_of table)
 
 -- If an entity has an exception, it has no active parent of that category.
-abbrev pub AreApart : Table → Type 0
-AreApart table = (lei : Lei) (category : ExceptionCategory)
+abbrev pub ExceptionsExcludeParents : Table → Type 0
+ExceptionsExcludeParents table = (lei : Lei) (category : ExceptionCategory)
     → IsTrue (has_exception table lei category) → active_of table lei (parent_type category) ≡ None

@@ -1,7 +1,7 @@
 //! The result of an item's checks.
 ghost use Rattle.std.specs.Prelude.{◌≡◌};
 ghost use Rattle.lei_records.specs.declared.check.Detail.{Detail};
-ghost use Rattle.lei_records.specs.Checks.{IsNumber};
+ghost use Rattle.lei_records.specs.Checks.{IsCheckNumber};
 ghost use Rattle.relation_rules.specs.Checking;
 
 use lei_code::Lei;
@@ -20,7 +20,7 @@ pub enum Checked {
 
 /// A check that reports nothing but its number.
 pub fn plain(number: u8) -> Check
-    requires { IsNumber number }
+    requires { IsCheckNumber number }
     ensures { result ≡ record { number = number; detail = Detail.None } }
 {
     Check {
@@ -31,7 +31,7 @@ pub fn plain(number: u8) -> Check
 
 /// A check that reports the LEI that it conflicts with.
 pub fn telling(number: u8, lei: Lei) -> Check
-    requires { IsNumber number }
+    requires { IsCheckNumber number }
     ensures { result ≡ record { number = number; detail = Detail.Code lei } }
 {
     Check {
@@ -41,9 +41,9 @@ pub fn telling(number: u8, lei: Lei) -> Check
 }
 
 /// A check that fails and reports nothing but its number.
-pub fn failed(number: u8) -> Checked
-    requires { IsNumber number }
-    ensures { result ≡ Checking.failed number }
+pub fn check_failure(number: u8) -> Checked
+    requires { IsCheckNumber number }
+    ensures { result ≡ Checking.check_failure number }
 {
     Checked::Fails(plain(number))
 }

@@ -4,13 +4,13 @@ ghost use Rattle.lei_shapes.specs.declared.lists.ExceptionCategory.{ExceptionCat
 ghost use Rattle.lei_shapes.specs.declared.lists.RelationType.{RelationType};
 ghost use Rattle.lei_records.specs.declared.view.CellKey.{CellKey};
 ghost use Rattle.lei_records.specs.Checks.{first_failing};
-ghost use Rattle.lei_records.specs.Tables.{IsSound, Table, cells_of};
+ghost use Rattle.lei_records.specs.Tables.{IsSoundTable, Table, cells_of};
 ghost use Rattle.relation_rules.specs.Checking;
 ghost use Rattle.relation_rules.specs.Checks.{exception_checks};
 ghost use Rattle.relation_rules.specs.Needs.{exception_names, lacks};
 ghost use Rattle.relation_rules.specs.declared.checked.Checked.{Checked};
 
-use crate::checked::{Checked, failed, telling};
+use crate::checked::{Checked, check_failure, telling};
 use crate::checks::manager_check;
 use crate::parents::parent_type;
 use lei_code::Lei;
@@ -31,7 +31,7 @@ pub fn exception_check<V: View>(view: &V, issuer: &Lei, item: &ExceptionItem) ->
         → Contains (exception_names item.now.0) key }
 
     // Over the cells of a sound table: the first that fails of all checks, each applied to all rows.
-    ensures over_tables { (table : Table) → IsSound table → V.cells view.now ≡ cells_of table
+    ensures over_tables { (table : Table) → IsSoundTable table → V.cells view.now ≡ cells_of table
         → result ≡ Checking.checked_of (first_failing (exception_checks table issuer.now item.now)) }
 {
     check_exception(view, issuer, item)
@@ -43,7 +43,7 @@ fn check_exception<V: View>(view: &V, issuer: &Lei, item: &ExceptionItem) -> Che
 {
     match view.record_cell(&item.lei()) {
         Seen::Held(held) => check_subject(view, issuer, item, &held),
-        Seen::Empty => failed(LEI_UNKNOWN),
+        Seen::Empty => check_failure(LEI_UNKNOWN),
         Seen::Missing => Checked::Missing(CellKey::Rec(item.lei())),
     }
 }
@@ -79,7 +79,7 @@ fn check_withdrawal<V: View>(view: &V, item: &ExceptionItem, category: Exception
 {
     match view.exception(&item.lei(), category) {
         Seen::Held(()) => Checked::Passes,
-        Seen::Empty => failed(NOTHING_TO_WITHDRAW),
+        Seen::Empty => check_failure(NOTHING_TO_WITHDRAW),
         Seen::Missing => Checked::Missing(CellKey::Exc(item.lei(), category)),
     }
 }

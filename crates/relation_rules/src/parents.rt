@@ -41,7 +41,7 @@ pub fn parent_type(category: ExceptionCategory) -> RelationType
 
 /// Whether relationships of the type lead to direct parents.
 pub fn is_direct(kind: RelationType) -> bool
-    ensures { result ≡ Kinds.is_direct kind }
+    ensures { result ≡ Kinds.is_direct_type kind }
 {
     matches!(kind, RelationType::IsDirectlyConsolidatedBy)
 }

@@ -6,14 +6,14 @@ ghost use Rattle.lei_records.specs.declared.view.Seen.{Seen};
 ghost use Rattle.lei_records.specs.Checks.{first_failing};
 ghost use Rattle.lei_records.specs.Parents;
 ghost use Rattle.lei_records.specs.Relations;
-ghost use Rattle.lei_records.specs.Tables.{IsSound, Table, cells_of};
+ghost use Rattle.lei_records.specs.Tables.{IsSoundTable, Table, cells_of};
 ghost use Rattle.authority_rules.specs.Taken.{unless_own};
 ghost use Rattle.relation_rules.specs.Checking;
 ghost use Rattle.relation_rules.specs.Checks.{relation_checks};
 ghost use Rattle.relation_rules.specs.Needs.{IsNeeded, lacks};
 ghost use Rattle.relation_rules.specs.declared.checked.Checked.{Checked};
 
-use crate::checked::{Checked, failed, telling};
+use crate::checked::{Checked, check_failure, telling};
 use crate::checks::{held_check, own_check, start_check};
 use crate::parents::{is_direct, parent_category, walk};
 use lei_code::Lei;
@@ -38,7 +38,7 @@ pub fn relation_check<V: View>(view: &V, issuer: &Lei, item: &Relation) -> Check
         → IsNeeded (V.cells view.now) item.now key }
 
     // Over the cells of a sound table: the first that fails of all checks, each applied to all rows.
-    ensures over_tables { (table : Table) → IsSound table → V.cells view.now ≡ cells_of table
+    ensures over_tables { (table : Table) → IsSoundTable table → V.cells view.now ≡ cells_of table
         → result ≡ Checking.checked_of (first_failing (relation_checks table issuer.now item.now)) }
 {
     check_relation(view, issuer, item)
@@ -53,7 +53,7 @@ fn check_relation<V: View>(view: &V, issuer: &Lei, item: &Relation) -> Checked
     }
     match view.record_cell(&item.start()) {
         Seen::Held(start) => check_start(view, issuer, item, &start),
-        Seen::Empty => failed(START_UNKNOWN),
+        Seen::Empty => check_failure(START_UNKNOWN),
         Seen::Missing => Checked::Missing(CellKey::Rec(item.start())),
     }
 }
@@ -64,7 +64,7 @@ fn check_start<V: View>(view: &V, issuer: &Lei, item: &Relation, start: &RecCell
 {
     match view.record_cell(&item.end()) {
         Seen::Held(_) => check_managed(view, issuer, item, start),
-        Seen::Empty => failed(END_UNKNOWN),
+        Seen::Empty => check_failure(END_UNKNOWN),
         Seen::Missing => Checked::Missing(CellKey::Rec(item.end())),
     }
 }
@@ -129,8 +129,8 @@ fn check_parents<V: View>(view: &V, item: &Relation) -> Checked
         return check_exception(view, item);
     }
     match walk(view, &item.start(), &item.end()) {
-        Walked::Meets => failed(PARENT_CYCLE),
-        Walked::Long => failed(PARENT_CHAIN_LONG),
+        Walked::Meets => check_failure(PARENT_CYCLE),
+        Walked::Long => check_failure(PARENT_CHAIN_LONG),
         Walked::Ends => check_exception(view, item),
         Walked::Missing(key) => Checked::Missing(key),
     }
@@ -153,7 +153,7 @@ fn check_category<V: View>(view: &V, item: &Relation, category: ExceptionCategor
         → result ≡ Checking.check_category (V.cells view.now) item.now (Some category) }
 {
     match view.exception(&item.start(), category) {
-        Seen::Held(()) => failed(EXCEPTION_STANDS),
+        Seen::Held(()) => check_failure(EXCEPTION_STANDS),
         Seen::Empty => Checked::Passes,
         Seen::Missing => Checked::Missing(CellKey::Exc(item.start(), category)),
     }

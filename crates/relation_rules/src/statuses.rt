@@ -6,7 +6,7 @@ use lei_shapes::RelationRegistration;
 
 // Whether a status may follow the held one, or may come first if none is held.
 pub fn may_follow(held: Option<RelationRegistration>, new: RelationRegistration) -> bool
-    ensures { result ≡ Statuses.may_follow held new }
+    ensures { result ≡ Statuses.status_may_follow held new }
 {
     match held {
         None | Some(RelationRegistration::Annulled) => is_in_force(new),
@@ -17,7 +17,7 @@ pub fn may_follow(held: Option<RelationRegistration>, new: RelationRegistration)
 
 // ISSUED and PUBLISHED are two spellings of one status.
 fn is_in_force(status: RelationRegistration) -> bool
-    ensures { result ≡ Statuses.may_follow None status }
+    ensures { result ≡ Statuses.status_may_follow None status }
 {
     matches!(
         status,

@@ -2,7 +2,7 @@
 use Rattle.std.proofs.Common.{◌≡◌, ℕ, ◌≤◌, List, Option, Result, Ok, Err, OnErr, sym, ap, ◌∙◌, subst}
 use Rattle.lei_outside.specs.Count.{Rose}
 use Rattle.lei_outside.specs.Faults.{FailsLast}
-use Rattle.lei_outside.specs.Links.{LinkTold, told_by}
+use Rattle.lei_outside.specs.Links.{LinkTold, link_told}
 use Rattle.lei_outside.specs.Told.{Reads}
 use Rattle.lei_outside.proofs.Faulting.{Loses-nothing, fails_here}
 
@@ -35,10 +35,10 @@ fails_at told faults part part_told part_faults of before after tells same fails
 pub read_fails : {D E : Type 0} (left written : D → Option (List ℕ)) (faults : D → ℕ) (result : Result ℕ E) (before after : D)
     (buffer : List ℕ) → Reads (left before) (left after) result buffer → written after ≡ written before
     → faults before ≤ faults after → OnErr result (Rose (faults before) (faults after))
-    → OnErr result (FailsLast (told_by left written) faults before after)
+    → OnErr result (FailsLast (link_told left written) faults before after)
 read_fails left written faults (Ok n) before after buffer reads same counts rose = tt
 read_fails left written faults (Err fault) before after buffer reads same counts rose =
     let T : Option (List ℕ) → Option (List ℕ) → LinkTold = λ l w. record { left = l; written = w } in
-    fails_here (told_by left written) faults before after
+    fails_here (link_told left written) faults before after
     (ap (λ (l : Option (List ℕ)). T l (written before)) (Loses-nothing (left before) (left after) reads)
     ∙ ap (T (left after)) (sym same)) counts rose

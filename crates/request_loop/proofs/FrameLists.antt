@@ -1,6 +1,6 @@
 -- Consecutive frames.
 use Rattle.std.proofs.Common.{◌≡◌, ℕ, List, [], ◌∷◌, ◌++◌, length, Option, None, Some, refl, sym, ap, ◌∙◌, subst, append_assoc, arith}
-use Rattle.request_loop.specs.Frames.{AreRefused, Frames, GoesOn, Rules, asks_of, texts_of}
+use Rattle.request_loop.specs.Frames.{AreRefused, Frames, GoesOn, Rules, asks_of, bytes_of_replies}
 use Rattle.request_loop.specs.declared.frames.Want.{Want}
 
 -- whole frames stay whole if more bytes follow
@@ -32,7 +32,7 @@ asks_join {W} (Some want ∷ frames) more = ap (λ (l : List W). want.asked ∷ 
 -- the texts of the replies to frames, followed by those to more frames
 pub texts_join : {W P E : Type 0} (rules : Rules W P E) (frames more : List (Option (Want W E))) (replies others : List P)
     → length replies ≡ length (asks_of frames)
-    → texts_of rules (frames ++ more) (replies ++ others) ≡ texts_of rules frames replies ++ texts_of rules more others
+    → bytes_of_replies rules (frames ++ more) (replies ++ others) ≡ bytes_of_replies rules frames replies ++ bytes_of_replies rules more others
 texts_join rules [] more [] others same = refl
 texts_join rules [] more (reply ∷ replies) others same = absurd (omega (arith, same))
 texts_join rules (None ∷ frames) more replies others same = texts_join rules frames more replies others same
@@ -40,7 +40,7 @@ texts_join rules (Some want ∷ frames) more [] others same = absurd (omega (ari
 texts_join rules (Some want ∷ frames) more (reply ∷ replies) others same =
     let rest : length replies ≡ length (asks_of frames) = omega (arith, same) in
     ap (λ (bytes : List ℕ). rules.text want reply ++ bytes) (texts_join rules frames more replies others rest)
-    ∙ sym (append_assoc (rules.text want reply) (texts_of rules frames replies) (texts_of rules more others))
+    ∙ sym (append_assoc (rules.text want reply) (bytes_of_replies rules frames replies) (bytes_of_replies rules more others))
 
 -- ---- frames that the framing refuses
 
@@ -68,6 +68,6 @@ refused_length rules (Some want ∷ frames) (reply ∷ replies) are =
 -- so their texts can be appended
 pub refused_texts : {W P E : Type 0} (rules : Rules W P E) (frames more : List (Option (Want W E))) (replies others : List P)
     → AreRefused rules frames replies
-    → texts_of rules (frames ++ more) (replies ++ others) ≡ texts_of rules frames replies ++ texts_of rules more others
+    → bytes_of_replies rules (frames ++ more) (replies ++ others) ≡ bytes_of_replies rules frames replies ++ bytes_of_replies rules more others
 refused_texts rules frames more replies others are =
     texts_join rules frames more replies others (refused_length rules frames replies are)

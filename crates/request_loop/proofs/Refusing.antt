@@ -5,7 +5,7 @@ use Rattle.std.proofs.lemmas.List.{take-append-le}
 use Rattle.std.proofs.Math.Seq.{take-append-add}
 use Rattle.std.proofs.lemmas.Bool.Decides.{nat_tests}
 use Rattle.lei_outside.specs.Told.{Grows, WritesFront}
-use Rattle.request_loop.specs.Frames.{AreRefused, Fits, Frames, Rules, asks_of, texts_of}
+use Rattle.request_loop.specs.Frames.{AreRefused, Fits, Frames, Rules, asks_of, bytes_of_replies}
 use Rattle.request_loop.specs.Serving.{AnswersInPart, Progress, Ran}
 use Rattle.request_loop.specs.Sessions.{Session}
 use Rattle.request_loop.specs.declared.frames.Want.{Want}
@@ -36,7 +36,7 @@ refused_session takes step rules who (Some want ∷ frames) (reply ∷ replies) 
 pub ran_refused : {A W P E : Type 0} (takes : W → Type 0) (step : A → W → List ℤ → P → A → Type 0) (rules : Rules W P E)
     (before : Progress A) (written : Option (List ℕ)) (frames : List (Option (Want W E))) (replies : List P)
     → Fits takes step rules → AreRefused rules frames replies
-    → Grows before.written written (texts_of rules frames replies) → Ran step rules before frames (written_so before written)
+    → Grows before.written written (bytes_of_replies rules frames replies) → Ran step rules before frames (written_so before written)
 ran_refused takes step rules before written frames replies fits are grows = record {
   moments = [];
   gives = ClockGives-none before.given;
@@ -61,7 +61,7 @@ record PartOf {A W P E : Type 0} (step : A → W → List ℤ → P → A → Ty
   session : Session step who (asks_of (frames ++ Some want ∷ [])) [] (replies ++ reply ∷ []) who
   part : ℕ
   short : part < length (rules.text want reply)
-  front : take n texts ≡ texts_of rules frames replies ++ take part (rules.text want reply)
+  front : take n texts ≡ bytes_of_replies rules frames replies ++ take part (rules.text want reply)
 
 -- a place in a list, or one after its end
 within_or_after : (test : Bool) (n len : ℕ) → nat_lt n len ≡ test → (n < len) ⊎ ((m : ℕ) × (n ≡ len + m))
@@ -106,14 +106,14 @@ part_next {W = W} {E = E} step rules who bytes after texts want reply n whole go
       short = next.short;
       front = ap (λ k. take k (text ++ texts)) is ∙ (take-append-add text texts m
           ∙ (ap (λ (l : List ℕ). text ++ l) next.front
-          ∙ sym (append_assoc text (texts_of rules next.frames next.replies)
+          ∙ sym (append_assoc text (bytes_of_replies rules next.frames next.replies)
           (take next.part (rules.text next.want next.reply)))));
     }
 
 part_of : {A W P E : Type 0} (takes : W → Type 0) (step : A → W → List ℤ → P → A → Type 0) (rules : Rules W P E) (who : A)
     (bytes : List ℕ) (frames : List (Option (Want W E))) (rest : List ℕ) (replies : List P) (n : ℕ)
     → Fits takes step rules → Frames rules bytes frames rest → AreRefused rules frames replies
-    → n < length (texts_of rules frames replies) → PartOf step rules who bytes (texts_of rules frames replies) n
+    → n < length (bytes_of_replies rules frames replies) → PartOf step rules who bytes (bytes_of_replies rules frames replies) n
 part_of takes step rules who bytes [] rest [] n fits are refused short = absurd (omega (arith, short))
 part_of takes step rules who bytes [] rest (reply ∷ replies) n fits are refused short = absurd refused
 part_of {W = W} {E = E} takes step rules who bytes (None ∷ frames) rest replies n fits (after, whole, goes, others) refused short =
@@ -135,7 +135,7 @@ part_of {W = W} {E = E} takes step rules who bytes (None ∷ frames) rest replie
     }
 part_of takes step rules who bytes (Some want ∷ frames) rest [] n fits are refused short = absurd refused
 part_of takes step rules who bytes (Some want ∷ frames) rest (reply ∷ replies) n fits (after, whole, goes, others) refused short =
-    part_next step rules who bytes after (texts_of rules frames replies) want reply n whole goes
+    part_next step rules who bytes after (bytes_of_replies rules frames replies) want reply n whole goes
     (fits.refused want.asked who reply refused.0)
     (λ m few. part_of takes step rules who after frames rest replies m fits others refused.1 few) short
     (within_or_after (nat_lt n (length (rules.text want reply))) n (length (rules.text want reply)) refl)
@@ -143,7 +143,7 @@ part_of takes step rules who bytes (Some want ∷ frames) rest (reply ∷ replie
 pub stops_refusing : {A W P E : Type 0} (takes : W → Type 0) (step : A → W → List ℤ → P → A → Type 0) (rules : Rules W P E)
     (before : Progress A) (written left : Option (List ℕ)) (bytes : List ℕ) (frames : List (Option (Want W E)))
     (rest : List ℕ) (replies : List P) → Fits takes step rules → Frames rules bytes frames rest
-    → AreRefused rules frames replies → WritesFront before.written written (texts_of rules frames replies)
+    → AreRefused rules frames replies → WritesFront before.written written (bytes_of_replies rules frames replies)
     → AnswersInPart step rules before bytes left (written_so before written)
 stops_refusing takes step rules before written left bytes frames rest replies fits are refused front =
     let part = part_of takes step rules before.who bytes frames rest replies front.0 fits are refused front.1 in

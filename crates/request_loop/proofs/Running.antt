@@ -4,7 +4,7 @@ use Rattle.std.proofs.lemmas.List.{append-nil}
 use Rattle.lei_outside.specs.Told.{Grows, WritesFront}
 use Rattle.lei_outside.specs.declared.faults.SinkFault.{SinkFault}
 use Rattle.lei_outside.proofs.Told.{Grows-none, Grows-join}
-use Rattle.request_loop.specs.Frames.{Fits, IsMeant, Rules, asks_of, texts_of}
+use Rattle.request_loop.specs.Frames.{Fits, IsMeant, Rules, asks_of, bytes_of_replies}
 use Rattle.request_loop.specs.Serving.{AnswersWant, Progress, Ran, Stopped}
 use Rattle.request_loop.specs.Sessions.{Session}
 use Rattle.request_loop.specs.Wires.{IsSent}
@@ -53,8 +53,8 @@ ran_join step rules start mid now frames more first second =
           second.replies first.session second.session;
       writes = subst G
           (sym (texts_join rules frames more first.replies second.replies (replies-of step rules start frames mid first)))
-          (Grows-join start.written mid.written now.written (texts_of rules frames first.replies)
-          (texts_of rules more second.replies) first.writes second.writes);
+          (Grows-join start.written mid.written now.written (bytes_of_replies rules frames first.replies)
+          (bytes_of_replies rules more second.replies) first.writes second.writes);
     }
 
 -- a frame that wants nothing
@@ -106,7 +106,7 @@ pub stopped_join : {A W P E : Type 0} (step : A → W → List ℤ → P → A �
     → Ran step rules start frames mid → Stopped step rules mid more want now
     → Stopped step rules start (frames ++ more) want now
 stopped_join {A} {W} {P} {E} step rules start mid now frames more want first second =
-    let before = texts_of rules frames first.replies in
+    let before = bytes_of_replies rules frames first.replies in
     let tail = take second.part (rules.text want second.reply) in
     let moments = first.moments ++ second.moments in
     let last : List (Option (Want W E)) = Some want ∷ [] in
@@ -127,9 +127,9 @@ stopped_join {A} {W} {P} {E} step rules start mid now frames more want first sec
       part = second.part;
       short = second.short;
       writes = subst G
-          (sym (append_assoc before (texts_of rules more second.replies) tail)
+          (sym (append_assoc before (bytes_of_replies rules more second.replies) tail)
           ∙ ap (λ (bytes : List ℕ). bytes ++ tail) (sym (texts_join rules frames more first.replies second.replies same)))
-          (Grows-join start.written mid.written now.written before (texts_of rules more second.replies ++ tail)
+          (Grows-join start.written mid.written now.written before (bytes_of_replies rules more second.replies ++ tail)
           first.writes second.writes);
     }
 

@@ -55,11 +55,11 @@ asks_of (None ∷ frames) = asks_of frames
 asks_of (Some want ∷ frames) = want.asked ∷ asks_of frames
 
 -- The bytes of the replies to frames, in order.
-abbrev pub texts_of : {W P E : Type 0} → Rules W P E → List (Option (Want W E)) → List P → List ℕ
-texts_of rules [] replies = []
-texts_of rules (None ∷ frames) replies = texts_of rules frames replies
-texts_of rules (Some want ∷ frames) [] = []
-texts_of rules (Some want ∷ frames) (reply ∷ replies) = rules.text want reply ++ texts_of rules frames replies
+abbrev pub bytes_of_replies : {W P E : Type 0} → Rules W P E → List (Option (Want W E)) → List P → List ℕ
+bytes_of_replies rules [] replies = []
+bytes_of_replies rules (None ∷ frames) replies = bytes_of_replies rules frames replies
+bytes_of_replies rules (Some want ∷ frames) [] = []
+bytes_of_replies rules (Some want ∷ frames) (reply ∷ replies) = rules.text want reply ++ bytes_of_replies rules frames replies
 
 -- The framing itself refuses what these frames ask, by these replies.
 abbrev pub AreRefused : {W P E : Type 0} → Rules W P E → List (Option (Want W E)) → List P → Type 0
@@ -92,7 +92,7 @@ pub record ReadsRefused {W P E : Type 0} (rules : Rules W P E) (holding : List �
   pub are : Frames rules bytes frames (drop count held)
   pub refused : AreRefused rules frames replies
   pub holds : holding (drop count held) (drop count held)
-  pub waits : waiting ≡ texts_of rules frames replies
+  pub waits : waiting ≡ bytes_of_replies rules frames replies
 
 -- The bytes start with a whole frame, and this many held bytes are its end. What it wants was read.
 pub record ReadsWhole {W P E : Type 0} (rules : Rules W P E) (holding : List ℕ → List ℕ → Type 0)

@@ -2,7 +2,7 @@
 use Rattle.std.specs.Prelude.{◌≡◌, ◌⊎◌, ◌<◌, ◌≤◌, ℕ, ℤ, List, [], ◌∷◌, ◌++◌, length, take, Option, None, Some, Result, Ok, Err}
 use Rattle.lei_outside.specs.Told.{Grows, IsAtEnd, Loses}
 use Rattle.lei_outside.specs.declared.faults.SinkFault.{SinkFault}
-use Rattle.request_loop.specs.Frames.{Frames, Rules, asks_of, texts_of}
+use Rattle.request_loop.specs.Frames.{Frames, Rules, asks_of, bytes_of_replies}
 use Rattle.request_loop.specs.Moments.{ClockGives}
 use Rattle.request_loop.specs.Sessions.{Session}
 use Rattle.request_loop.specs.Wires.{IsSent}
@@ -35,7 +35,7 @@ pub record Ran {A W P E : Type 0} (step : A → W → List ℤ → P → A → T
   pub gives : ClockGives start.given now.given moments
   pub replies : List P
   pub session : Session step start.who (asks_of frames) moments replies now.who
-  pub writes : Grows start.written now.written (texts_of rules frames replies)
+  pub writes : Grows start.written now.written (bytes_of_replies rules frames replies)
 
 -- The same, and after these frames what one more wants. Only a proper prefix of the reply to it was written.
 pub record Stopped {A W P E : Type 0} (step : A → W → List ℤ → P → A → Type 0) (rules : Rules W P E)
@@ -50,7 +50,7 @@ pub record Stopped {A W P E : Type 0} (step : A → W → List ℤ → P → A �
   pub part : ℕ
   pub short : part < length (rules.text want reply)
   pub writes : Grows start.written now.written
-      (texts_of rules frames replies ++ take part (rules.text want reply))
+      (bytes_of_replies rules frames replies ++ take part (rules.text want reply))
 
 -- ---- by the bytes that were taken
 

@@ -1,7 +1,7 @@
 //! How frames are answered.
 ghost use Rattle.std.specs.Prelude.{◌≡◌, ℕ, List, IfSome, IsErrOf};
 ghost use Rattle.lei_outside.specs.Faults.{FailsLast};
-ghost use Rattle.lei_outside.specs.Links.{told_by};
+ghost use Rattle.lei_outside.specs.Links.{link_told};
 ghost use Rattle.request_loop.specs.Serving.{AnswersFrame, AnswersLast, AnswersWant, ended_unsent, progress};
 ghost use Rattle.request_loop.specs.declared.frames.Ended.{Ended};
 
@@ -26,7 +26,7 @@ fn answer<R, A: Answers<R>, F: Framing<Asked = A::Asked, Reply = A::Reply>, L: W
         (progress who.new (C.given clock.new) (L.written link.new)) }
     ensures kept { ¬ (IsErrOf result SinkFault.Failed) → L.write_faults link.new ≡ L.write_faults link.old }
     ensures failed { IsErrOf result SinkFault.Failed →
-        FailsLast (told_by L.left L.written) L.write_faults link.old link.new }
+        FailsLast (link_told L.left L.written) L.write_faults link.old link.new }
     ensures left { L.left link.new ≡ L.left link.old }
     ensures read_count { L.read_faults link.new ≡ L.read_faults link.old }
     ensures wire { L.lends_same link.old link.new }
@@ -58,7 +58,7 @@ pub fn answer_frame<
         (progress who.new (C.given clock.new) (L.written link.new)) }
     ensures kept { ¬ (IsErrOf result Ended.WriteFault) → L.write_faults link.new ≡ L.write_faults link.old }
     ensures failed { IsErrOf result Ended.WriteFault →
-        FailsLast (told_by L.left L.written) L.write_faults link.old link.new }
+        FailsLast (link_told L.left L.written) L.write_faults link.old link.new }
     ensures left { L.left link.new ≡ L.left link.old }
     ensures read_count { L.read_faults link.new ≡ L.read_faults link.old }
     ensures wire { L.lends_same link.old link.new }
@@ -98,7 +98,7 @@ pub fn answer_last<
         (progress who.new (C.given clock.new) (L.written link.new)) }
     ensures kept { ¬ (result ≡ Ended.WriteFault) → L.write_faults link.new ≡ L.write_faults link.old }
     ensures failed { result ≡ Ended.WriteFault
-        → FailsLast (told_by L.left L.written) L.write_faults link.old link.new }
+        → FailsLast (link_told L.left L.written) L.write_faults link.old link.new }
     ensures left { L.left link.new ≡ L.left link.old }
     ensures read_count { L.read_faults link.new ≡ L.read_faults link.old }
     ensures wire { L.lends_same link.old link.new }

@@ -1,7 +1,7 @@
 //! How bytes are cut into frames, and how replies are written.
 ghost use Rattle.std.specs.Prelude.{◌≡◌, ℕ, List, [], ◌++◌, Option, OnOk, IsErrOf};
 ghost use Rattle.lei_outside.specs.Faults.{FailsLast};
-ghost use Rattle.lei_outside.specs.Links.{told_by};
+ghost use Rattle.lei_outside.specs.Links.{link_told};
 ghost use Rattle.request_loop.specs.Frames.{ReadsFront, Rules};
 ghost use Rattle.request_loop.specs.Wires.{IsSent};
 ghost use Rattle.request_loop.specs.declared.frames.Want.{Want};
@@ -51,7 +51,7 @@ pub trait Framing {
         ensures kept { ¬ (IsErrOf result SinkFault.Failed)
             → L.write_faults link.new ≡ L.write_faults link.old }
         ensures failed { IsErrOf result SinkFault.Failed →
-            FailsLast (told_by L.left L.written) L.write_faults link.old link.new }
+            FailsLast (link_told L.left L.written) L.write_faults link.old link.new }
         ensures left { L.left link.new ≡ L.left link.old }
         ensures read_count { L.read_faults link.new ≡ L.read_faults link.old }
         ensures wire { L.lends_same link.old link.new }
@@ -64,7 +64,7 @@ pub trait Framing {
         ensures kept { ¬ (IsErrOf result SinkFault.Failed)
             → L.write_faults link.new ≡ L.write_faults link.old }
         ensures failed { IsErrOf result SinkFault.Failed →
-            FailsLast (told_by L.left L.written) L.write_faults link.old link.new }
+            FailsLast (link_told L.left L.written) L.write_faults link.old link.new }
         ensures left { L.left link.new ≡ L.left link.old }
         ensures read_count { L.read_faults link.new ≡ L.read_faults link.old }
         ensures wire { L.lends_same link.old link.new }

@@ -1,7 +1,7 @@
 //! A buffer of the bytes that were read and not used up yet.
 ghost use Rattle.std.specs.Prelude.{◌≡◌, ◌≤◌, ◌<◌, ◌+◌, [], length, drop, take, vec_len, IfOk, IfErr, OnOk, OnErr, IsErrOf};
 ghost use Rattle.lei_outside.specs.Faults.{FailsLast};
-ghost use Rattle.lei_outside.specs.Links.{told_by};
+ghost use Rattle.lei_outside.specs.Links.{link_told};
 ghost use Rattle.lei_outside.specs.Told.{Loses};
 ghost use Rattle.request_loop.specs.ReadBuffers.{Fills};
 
@@ -78,7 +78,7 @@ impl ReadBuffer {
         ensures same { OnErr result (self.new ≡ self.old) }
         ensures kept { ¬ (IsErrOf result ReadFault.Failed) → L.read_faults link.new ≡ L.read_faults link.old }
         ensures failed { IsErrOf result ReadFault.Failed →
-            FailsLast (told_by L.left L.written) L.read_faults link.old link.new }
+            FailsLast (link_told L.left L.written) L.read_faults link.old link.new }
         ensures written { L.written link.new ≡ L.written link.old }
         ensures write_count { L.write_faults link.new ≡ L.write_faults link.old }
         ensures wire { L.lends_same link.old link.new }
@@ -137,7 +137,7 @@ fn read_after<L: Wire>(
     ensures same { OnErr result (take held buffer.new.items ≡ take held buffer.old.items) }
     ensures len { vec_len buffer.new ≡ vec_len buffer.old }
     ensures kept { OnOk result (L.read_faults link.new ≡ L.read_faults link.old) }
-    ensures failed { OnErr result (FailsLast (told_by L.left L.written) L.read_faults link.old link.new) }
+    ensures failed { OnErr result (FailsLast (link_told L.left L.written) L.read_faults link.old link.new) }
     ensures written { L.written link.new ≡ L.written link.old }
     ensures write_count { L.write_faults link.new ≡ L.write_faults link.old }
     ensures wire { L.lends_same link.old link.new }

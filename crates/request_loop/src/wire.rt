@@ -3,7 +3,7 @@ ghost use Rattle.std.specs.Prelude.{◌≡◌, ℕ, ◌<◌, ◌≤◌, List, Op
 ghost use Rattle.lei_outside.specs.Told.{Reads, Writes};
 ghost use Rattle.lei_outside.specs.Count.{Rose};
 ghost use Rattle.lei_outside.specs.Faults.{FailsLast};
-ghost use Rattle.lei_outside.specs.Links.{told_by};
+ghost use Rattle.lei_outside.specs.Links.{link_told};
 ghost use Rattle.request_loop.specs.Wires.{IsSent};
 
 use lei_outside::{Failed, Link, Sink, SinkFault, Source};
@@ -120,7 +120,7 @@ pub fn send_piece<L: Wire>(link: &mut L, piece: &[u8]) -> Result<(), SinkFault>
     ensures sent { IsSent (L.written link.old) (L.written link.new) piece.now result }
     ensures kept { ¬ (IsErrOf result SinkFault.Failed) → L.write_faults link.new ≡ L.write_faults link.old }
     ensures failed { IsErrOf result SinkFault.Failed →
-        FailsLast (told_by L.left L.written) L.write_faults link.old link.new }
+        FailsLast (link_told L.left L.written) L.write_faults link.old link.new }
     ensures left { L.left link.new ≡ L.left link.old }
     ensures read_count { L.read_faults link.new ≡ L.read_faults link.old }
     ensures wire { L.lends_same link.old link.new }

@@ -5,7 +5,7 @@ use Rattle.request_loop.specs.Frames.{Fits}
 use Rattle.request_loop.specs.Serving.{Completes, Progress, Serves}
 use Rattle.request_loop.specs.declared.frames.Ended.{Ended}
 use Rattle.line_reading.specs.declared.framing.NoEnd.{NoEnd}
-use Rattle.query_reading.specs.QueryFrames.{ReadsAs, TakesMemory}
+use Rattle.query_reading.specs.QueryFrames.{QueryReadsAs, TakesMemory}
 use Rattle.query_reading.specs.declared.asked.QueryAsked.{QueryAsked}
 use Rattle.query_reading.specs.declared.refusal.QueryRefusal.TheVariants.{NoMemory}
 use Rattle.query_reading.specs.declared.reply.QueryReply.{QueryReply}
@@ -19,7 +19,7 @@ use Rattle.search_queries.specs.Serving.{CompletesQueries, ServesQueries, search
 -- ---- it fits the framing
 
 unread : (meant : SearchAsked) (old new : Searching) (moments : List ℤ) (reply : QueryReply)
-    → ReadsAs meant (QueryAsked.Refuse NoMemory) → AnswersSo old (QueryAsked.Refuse NoMemory) moments reply new
+    → QueryReadsAs meant (QueryAsked.Refuse NoMemory) → AnswersSo old (QueryAsked.Refuse NoMemory) moments reply new
     → AnswersSo old meant moments reply new
 unread (QueryAsked.Refuse refusal) old new moments reply reads answered = absurd reads.0
 unread (QueryAsked.Query query) old new moments reply reads answered = record {
@@ -38,7 +38,7 @@ unread (QueryAsked.Packet head packet) old new moments reply reads answered = re
 }
 
 read_alike : (meant read : SearchAsked) (old new : Searching) (moments : List ℤ) (reply : QueryReply)
-    → ReadsAs meant read → AnswersSo old read moments reply new → AnswersSo old meant moments reply new
+    → QueryReadsAs meant read → AnswersSo old read moments reply new → AnswersSo old meant moments reply new
 read_alike meant read old new moments reply reads answered =
     let A : SearchAsked → Type 0 = λ asked. AnswersSo old asked moments reply new in
     unread meant old new moments reply (reads.0, refl) (subst A reads.1 answered)

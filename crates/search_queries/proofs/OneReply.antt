@@ -9,13 +9,13 @@ use Rattle.copy_csv.specs.declared.heads.Head.{Head}
 use Rattle.copy_csv.specs.declared.rows.Change.{Change}
 use Rattle.copy_forms.proofs.CopyLemmas.{csv-delta, delta-same}
 use Rattle.copy_forms.specs.Files.{IsDeltaRead}
-use Rattle.name_search.specs.NameTables.{IsRefusal, NameTable, Takes, base_of}
+use Rattle.name_search.specs.NameTables.{IsTakeFault, MayTakeDelta, NameTable, delta_base}
 use Rattle.name_search.specs.declared.faults.TakeFault.{TakeFault}
 use Rattle.name_search.specs.declared.faults.TakeFault.TheVariants as faults
 use Rattle.query_reading.specs.declared.asked.QueryAsked.{QueryAsked}
 use Rattle.query_reading.specs.declared.reply.QueryReply.{QueryReply}
 use Rattle.query_reading.specs.declared.reply.QueryReply.TheVariants as replies
-use Rattle.search_queries.specs.Searches.{IsShort, LacksMemory, RefusesDelta, SearchAsked, SearchState, SearchStep, TakesDelta, table_of, take_refusal}
+use Rattle.search_queries.specs.Searches.{HasShortPacket, LacksMemory, RefusesDelta, SearchAsked, SearchState, SearchStep, TakesDelta, name_table, take_refusal}
 use Rattle.search_queries.proofs.ReadFiles.{no_delta, some_delta}
 
 -- the same, except that memory ran out for one or the other
@@ -57,8 +57,8 @@ same_some : (x y : ℕ) (o : Option ℕ) → o ≡ Some x → o ≡ Some y → x
 same_some x y None is also = cc
 same_some x y (Some z) is also = cc
 
-goes_wrong : (table : NameTable) (delta : DeltaRead) (p q : ℕ) → IsRefusal table delta (faults.WrongBase p q)
-    → table.publication ≡ base_of delta → ⊥
+goes_wrong : (table : NameTable) (delta : DeltaRead) (p q : ℕ) → IsTakeFault table delta (faults.WrongBase p q)
+    → table.publication ≡ delta_base delta → ⊥
 goes_wrong table delta p q wrong from =
     wrong.2 (same_some p q table.publication wrong.0 (from ∙ wrong.1))
 
@@ -66,11 +66,11 @@ goes_wrong table delta p q wrong from =
 abbrev SameFault : TakeFault → TakeFault → Type 0
 SameFault fault other = (fault ≡ faults.NoMemory) ⊎ (other ≡ faults.NoMemory) ⊎ (fault ≡ other)
 
-one_fault : (table : NameTable) (delta : DeltaRead) (fault other : TakeFault) → IsRefusal table delta fault
-    → IsRefusal table delta other → SameFault fault other
+one_fault : (table : NameTable) (delta : DeltaRead) (fault other : TakeFault) → IsTakeFault table delta fault
+    → IsTakeFault table delta other → SameFault fault other
 one_fault table delta (faults.WrongBase p q) (faults.WrongBase r s) why also =
     inr (inr (ap (λ n. faults.WrongBase n q) (same_some p r table.publication why.0 also.0)
-    ∙ ap (λ n. faults.WrongBase r n) (same_some q s (base_of delta) why.1 also.1)))
+    ∙ ap (λ n. faults.WrongBase r n) (same_some q s (delta_base delta) why.1 also.1)))
 one_fault table delta (faults.WrongBase p q) faults.OlderDelta why also =
     absurd (goes_wrong table delta p q why also.0)
 one_fault table delta (faults.WrongBase p q) faults.NoMemory why also = inr (inl refl)
@@ -100,10 +100,10 @@ refused_once state new next delta reply other one also (inr (inr same)) =
     ))
 
 -- a delta that is taken is refused only for lack of memory
-refused_taken : (state : SearchState) (delta : DeltaRead) (fault : TakeFault) → IsRefusal (table_of state) delta fault
-    → Takes (table_of state) delta → fault ≡ faults.NoMemory
+refused_taken : (state : SearchState) (delta : DeltaRead) (fault : TakeFault) → IsTakeFault (name_table state) delta fault
+    → MayTakeDelta (name_table state) delta → fault ≡ faults.NoMemory
 refused_taken state delta (faults.WrongBase p q) why takes =
-    absurd (goes_wrong (table_of state) delta p q why takes.goes_from)
+    absurd (goes_wrong (name_table state) delta p q why takes.goes_from)
 refused_taken state delta faults.OlderDelta why takes =
     absurd (let wide : true ≡ false = sym (takes.newer why.1) ∙ why.2 in cc)
 refused_taken state delta faults.NoMemory why takes = refl
@@ -113,7 +113,7 @@ delta_once : (state new next : SearchState) (delta : DeltaRead) (reply other : Q
     → RefusesDelta state delta other next ⊎ TakesDelta state delta other next → OneOf state reply new other next
 delta_once state new next delta reply other (inl one) (inl also) =
     refused_once state new next delta reply other one also
-    (one_fault (table_of state) delta one.fault also.fault one.why also.why)
+    (one_fault (name_table state) delta one.fault also.fault one.why also.why)
 delta_once state new next delta reply other (inl one) (inr also) =
     inl (lacks state delta reply new one (refused_taken state delta one.fault one.why also.takes))
 delta_once state new next delta reply other (inr one) (inl also) =
@@ -124,7 +124,7 @@ delta_once state new next delta reply other (inr one) (inr also) =
 -- ---- queries
 
 pub one_reply : (form : Form) (state new next : SearchState) (asked : SearchAsked) (moments later : List ℤ)
-    (reply other : QueryReply) → IsShort asked → SearchStep form state asked moments reply new
+    (reply other : QueryReply) → HasShortPacket asked → SearchStep form state asked moments reply new
     → SearchStep form state asked later other next → OneOf state reply new other next
 one_reply form state new next (QueryAsked.Refuse refusal) moments later reply other short one also =
     inr (inr (one.1 ∙ sym also.1, one.2 ∙ sym also.2))

@@ -12,7 +12,7 @@ use Rattle.copy_csv.specs.declared.heads.Head.{Head}
 use Rattle.copy_forms.specs.Files.{IsCopyRead, IsDelta, IsDeltaRead}
 use Rattle.name_search.specs.NameTables.{number_in}
 use Rattle.search_queries.specs.Searchers.{has_number}
-use Rattle.search_queries.specs.Searches.{IsNoDelta}
+use Rattle.search_queries.specs.Searches.{IsNoLeiDelta}
 
 -- a head that any copy and any delta in CSV may have
 some_head : ℕ → Head
@@ -62,7 +62,7 @@ pub some_delta : (bytes : Text) (read : DeltaRead) → IsDeltaRead bytes Sheet.L
 some_delta bytes read is = (some_head 1, is.1 (some_head 1) some_delta_head)
 
 -- what was read as a delta is one
-pub no_delta : (form : Form) (bytes : Text) (read : DeltaRead) → IsNoDelta form bytes
+pub no_delta : (form : Form) (bytes : Text) (read : DeltaRead) → IsNoLeiDelta form bytes
     → IsDeltaRead bytes Sheet.Lei form read → ⊥
 no_delta Form.Csv bytes read none is =
     let some = some_delta bytes read is in none some.0 read.wide read.changes some.1

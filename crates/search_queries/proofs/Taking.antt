@@ -8,7 +8,7 @@ use Rattle.copy_csv.specs.Sheets.{SheetRow}
 use Rattle.copy_csv.specs.declared.heads.DeltaRead.{DeltaRead}
 use Rattle.copy_forms.specs.Files.{IsDeltaRead}
 use Rattle.copy_forms.specs.Patching.{patched}
-use Rattle.name_search.specs.NameTables.{IsRefusal, IsTableOf, Name, NameTable, Takes, named, number_in}
+use Rattle.name_search.specs.NameTables.{IsNameTable, IsTakeFault, MayTakeDelta, Name, NameTable, key_and_name, number_in}
 use Rattle.name_search.specs.declared.faults.TakeFault.{TakeFault}
 use Rattle.query_reading.specs.declared.asked.QueryAsked.{QueryAsked}
 use Rattle.query_reading.specs.declared.refusal.QueryRefusal.TheVariants as refusals
@@ -16,7 +16,7 @@ use Rattle.query_reading.specs.declared.reply.QueryReply.{QueryReply}
 use Rattle.query_reading.specs.declared.reply.QueryReply.TheVariants as replies
 use Rattle.search_queries.specs.Answers.{rows_text}
 use Rattle.search_queries.specs.Searchers.{AnswersSo, CountsDelta, IsStateOf, Searching, TakesDeltaSo, TakesSo}
-use Rattle.search_queries.specs.Searches.{IsNoDelta, SearchAsked, SearchState, after_delta, find_reply, take_refusal}
+use Rattle.search_queries.specs.Searches.{IsNoLeiDelta, SearchAsked, SearchState, after_delta, find_reply, take_refusal}
 use Rattle.search_queries.specs.declared.grammar.FindQuery.{FindQuery}
 
 -- a table by its three parts
@@ -31,29 +31,29 @@ table_by table publication wide names is_publication is_wide is_names =
     ap P is_publication ∙ (ap W is_wide ∙ ap N is_names)
 
 -- an index over a state has the names of its rows
-pub table_rows : (state : SearchState) (table : NameTable) → IsStateOf state table → IsTableOf state.rows table
+pub table_rows : (state : SearchState) (table : NameTable) → IsStateOf state table → IsNameTable state.rows table
 table_rows state table is =
     record { rows_are = is.rows_are; names_are = ap (λ (t : NameTable). t.names) is.table_is }
 
 -- and so it is over the state of a copy
-pub state_by : (state : SearchState) (table : NameTable) → IsTableOf state.rows table
+pub state_by : (state : SearchState) (table : NameTable) → IsNameTable state.rows table
     → table.publication ≡ state.publication → table.wide ≡ state.wide → IsStateOf state table
 state_by state table rows publication wide = record {
   rows_are = rows.rows_are;
-  table_is = table_by table state.publication state.wide (map named state.rows) publication wide rows.names_are;
+  table_is = table_by table state.publication state.wide (map key_and_name state.rows) publication wide rows.names_are;
 }
 
 -- a delta was taken
 pub taken : (table table_now : NameTable) (delta : DeltaRead) (reply : QueryReply)
-    → ((rows : List SheetRow) → IsTableOf rows table → IsTableOf (patched rows delta.changes) table_now)
-    → table_now.publication ≡ number_in delta.head → table_now.wide ≡ delta.wide → Takes table delta
+    → ((rows : List SheetRow) → IsNameTable rows table → IsNameTable (patched rows delta.changes) table_now)
+    → table_now.publication ≡ number_in delta.head → table_now.wide ≡ delta.wide → MayTakeDelta table delta
     → reply ≡ replies.Text (rows_text (length table_now.names)) → TakesDeltaSo table delta reply table_now
 taken table table_now delta reply patches publication wide takes is state held =
     let now = after_delta state delta in
     let rows = patches state.rows (table_rows state table held) in
-    let T : NameTable → Type 0 = λ t. Takes t delta in
+    let T : NameTable → Type 0 = λ t. MayTakeDelta t delta in
     let count : length table_now.names ≡ length (patched state.rows delta.changes) = ap length rows.names_are
-    ∙ length-map (patched state.rows delta.changes) named in (
+    ∙ length-map (patched state.rows delta.changes) key_and_name in (
       now,
       state_by now table_now rows publication wide,
       inr (record {
@@ -65,11 +65,11 @@ taken table table_now delta reply patches publication wide takes is state held =
 
 -- a delta wasn't taken
 pub delta_refused : (table table_now : NameTable) (delta : DeltaRead) (reply : QueryReply) (fault : TakeFault)
-    → table_now ≡ table → IsRefusal table delta fault → reply ≡ replies.Refused (take_refusal fault)
+    → table_now ≡ table → IsTakeFault table delta fault → reply ≡ replies.Refused (take_refusal fault)
     → TakesDeltaSo table delta reply table_now
 delta_refused table table_now delta reply fault stays why is state held =
     let S : NameTable → Type 0 = λ t. IsStateOf state t in
-    let R : NameTable → Type 0 = λ t. IsRefusal t delta fault in (
+    let R : NameTable → Type 0 = λ t. IsTakeFault t delta fault in (
       state,
       subst S (sym stays) held,
       inl (record { fault = fault; why = subst R held.table_is why; reply_is = is; stays = refl }),
@@ -84,7 +84,7 @@ packet_read form table table_now packet delta reply read answered state held =
     (so.0, so.1, inr (inl (delta, read, so.2)))
 
 -- a packet that wasn't
-pub packet_refused : (form : Form) (table : NameTable) (packet : Text) (reply : QueryReply) → IsNoDelta form packet
+pub packet_refused : (form : Form) (table : NameTable) (packet : Text) (reply : QueryReply) → IsNoLeiDelta form packet
     → reply ≡ replies.Refused refusals.DeltaNotRead → TakesSo form table packet reply table
 packet_refused form table packet reply none is state held =
     (state, held, inl (record { none = none; reply_is = is; stays = refl }))

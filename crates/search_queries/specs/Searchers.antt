@@ -9,7 +9,7 @@ use Rattle.copy_forms.specs.Files.{IsDeltaRead}
 use Rattle.name_search.specs.NameTables.{NameTable}
 use Rattle.query_reading.specs.declared.asked.QueryAsked.{QueryAsked}
 use Rattle.query_reading.specs.declared.reply.QueryReply.{QueryReply}
-use Rattle.search_queries.specs.Searches.{RefusesDelta, SearchAsked, SearchState, SearchStep, TakeStep, TakesDelta, table_of}
+use Rattle.search_queries.specs.Searches.{RefusesDelta, SearchAsked, SearchState, SearchStep, TakeStep, TakesDelta, name_table}
 
 -- The answerer: the form of the copy and of the deltas, what an index has of the copy, and how many steps were counted.
 pub record Searching : Type 0 where
@@ -20,7 +20,7 @@ pub record Searching : Type 0 where
 -- The index has the copy that is held in this state: rows of `lei` whose keys rise.
 pub record IsStateOf (state : SearchState) (table : NameTable) : Type 0 where
   pub rows_are : AreRows Sheet.Lei state.rows
-  pub table_is : table ≡ table_of state
+  pub table_is : table ≡ name_table state
 
 -- In JSON a copy has a number, and in CSV it has none.
 abbrev pub has_number : Form → Bool
@@ -28,8 +28,8 @@ has_number Form.Csv = false
 has_number Form.Json = true
 
 -- The number of a copy is there exactly if it is in JSON.
-abbrev pub IsNumbered : Form → NameTable → Type 0
-IsNumbered form table = is_some table.publication ≡ has_number form
+abbrev pub IsNumberedIfJson : Form → NameTable → Type 0
+IsNumberedIfJson form table = is_some table.publication ≡ has_number form
 
 -- The count of steps rises by at most the number of members of the delta in the packet. If the packet isn't a delta, it
 -- stays.

@@ -10,7 +10,7 @@ use Rattle.copy_csv.specs.declared.heads.Head.{Head}
 use Rattle.copy_csv.specs.declared.rows.Change.{Change}
 use Rattle.copy_forms.specs.Files.{IsDelta, IsDeltaRead}
 use Rattle.copy_forms.specs.Patching.{patched}
-use Rattle.name_search.specs.NameTables.{IsRefusal, NameTable, Takes, named, number_in}
+use Rattle.name_search.specs.NameTables.{IsTakeFault, MayTakeDelta, NameTable, key_and_name, number_in}
 use Rattle.name_search.specs.Searching.{found}
 use Rattle.name_search.specs.Words.{words}
 use Rattle.name_search.specs.declared.faults.TakeFault.{TakeFault}
@@ -37,8 +37,8 @@ pub record SearchState : Type 0 where
   pub rows : List SheetRow
 
 -- What an index has of such a copy.
-abbrev pub table_of : SearchState → NameTable
-table_of state = record { publication = state.publication; wide = state.wide; names = map named state.rows }
+abbrev pub name_table : SearchState → NameTable
+name_table state = record { publication = state.publication; wide = state.wide; names = map key_and_name state.rows }
 
 -- The state of a search over a copy that was read.
 abbrev pub state_of : CopyRead → SearchState
@@ -56,7 +56,7 @@ abbrev pub find_by_words : SearchState → ℕ → Text → ℕ → QueryReply
 find_by_words state page text count =
     if count == 0 then replies.Refused refusals.NoWord
     else (if nat_lt 8 count then replies.Refused refusals.TooManyWords
-    else replies.Text (found_text (found (map named state.rows) text) page))
+    else replies.Text (found_text (found (map key_and_name state.rows) text) page))
 
 -- The reply to FIND: the text has no word, or more than 8; or the names of the rows that have each of its words.
 abbrev pub find_reply : SearchState → FindQuery → QueryReply
@@ -71,8 +71,8 @@ take_refusal faults.OlderDelta = refusals.OlderDelta
 take_refusal faults.NoMemory = refusals.NoMemory
 
 -- The bytes aren't a delta of `lei` in this form.
-abbrev pub IsNoDelta : Form → Text → Type 0
-IsNoDelta form packet =
+abbrev pub IsNoLeiDelta : Form → Text → Type 0
+IsNoLeiDelta form packet =
     (head : Head) (wide : Bool) (changes : List Change) → IsDelta packet Sheet.Lei form head wide changes → ⊥
 
 -- Memory ran out, and nothing changes.
@@ -81,9 +81,9 @@ pub record LacksMemory (state : SearchState) (reply : QueryReply) (new : SearchS
   pub stays : new ≡ state
 
 -- The packet isn't a delta, and nothing changes.
-pub record RefusesPacket (form : Form) (state : SearchState) (packet : Text) (reply : QueryReply)
+pub record RefusesDeltaPacket (form : Form) (state : SearchState) (packet : Text) (reply : QueryReply)
     (new : SearchState) : Type 0 where
-  pub none : IsNoDelta form packet
+  pub none : IsNoLeiDelta form packet
   pub reply_is : reply ≡ replies.Refused refusals.DeltaNotRead
   pub stays : new ≡ state
 
@@ -91,21 +91,21 @@ pub record RefusesPacket (form : Form) (state : SearchState) (packet : Text) (re
 pub record RefusesDelta (state : SearchState) (delta : DeltaRead) (reply : QueryReply)
     (new : SearchState) : Type 0 where
   pub fault : TakeFault
-  pub why : IsRefusal (table_of state) delta fault
+  pub why : IsTakeFault (name_table state) delta fault
   pub reply_is : reply ≡ replies.Refused (take_refusal fault)
   pub stays : new ≡ state
 
 -- The packet is a delta that the copy takes: its rows are patched by the delta, and the reply has their number.
 pub record TakesDelta (state : SearchState) (delta : DeltaRead) (reply : QueryReply)
     (new : SearchState) : Type 0 where
-  pub takes : Takes (table_of state) delta
+  pub takes : MayTakeDelta (name_table state) delta
   pub reply_is : reply ≡ replies.Text (rows_text (length (patched state.rows delta.changes)))
   pub state_is : new ≡ after_delta state delta
 
 -- The reply to TAKE, and the state after it.
 abbrev pub TakeStep : Form → SearchState → Text → QueryReply → SearchState → Type 0
 TakeStep form state packet reply new =
-    RefusesPacket form state packet reply new
+    RefusesDeltaPacket form state packet reply new
     ⊎ ((delta : DeltaRead) × IsDeltaRead packet Sheet.Lei form delta
     × (RefusesDelta state delta reply new ⊎ TakesDelta state delta reply new))
     ⊎ LacksMemory state reply new
@@ -123,7 +123,7 @@ SearchStep form state (QueryAsked.Packet head packet) moments reply new =
     (moments ≡ []) × TakeStep form state packet reply new
 
 -- A packet has fewer than 2^64 bytes.
-abbrev pub IsShort : SearchAsked → Type 0
-IsShort (QueryAsked.Refuse refusal) = ⊤
-IsShort (QueryAsked.Query query) = ⊤
-IsShort (QueryAsked.Packet head packet) = length packet < 2 ^ 64
+abbrev pub HasShortPacket : SearchAsked → Type 0
+HasShortPacket (QueryAsked.Refuse refusal) = ⊤
+HasShortPacket (QueryAsked.Query query) = ⊤
+HasShortPacket (QueryAsked.Packet head packet) = length packet < 2 ^ 64

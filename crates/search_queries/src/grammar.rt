@@ -1,8 +1,8 @@
 //! The meaning of a search's lines.
 ghost use Rattle.std.specs.Prelude.{◌≡◌, option_map, IfOk, OnErr};
-ghost use Rattle.query_reading.specs.Meanings.{IsWhole};
+ghost use Rattle.query_reading.specs.Meanings.{IsWholeQuery};
 ghost use Rattle.query_reading.specs.declared.grammar.LineMeaning.{LineMeaning as Meaning};
-ghost use Rattle.search_queries.specs.Grammar.{find_of, says_alone, says_with, take_of, text_of};
+ghost use Rattle.search_queries.specs.Grammar.{find_of, search_says_alone, search_says_with, take_of, utf8_in};
 
 use crate::page::Page;
 use lei_outside::{NoMemory, Text};
@@ -47,7 +47,7 @@ impl Grammar for SearchGrammar {
 
 // What a first word says on its own.
 fn read_alone(word: &[u8]) -> SearchMeaning
-    ensures { result ≡ says_alone word.now }
+    ensures { result ≡ search_says_alone word.now }
 {
     if word == b"FIND".as_slice() || word == b"TAKE".as_slice() {
         return LineMeaning::Refused(QueryRefusal::Path);
@@ -57,8 +57,8 @@ fn read_alone(word: &[u8]) -> SearchMeaning
 
 // What a first word says with what follows its space.
 fn read_words(alloc: Global, word: &[u8], rest: &[u8]) -> Result<SearchMeaning, NoMemory>
-    ensures ok { IfOk result (λ meaning. meaning ≡ says_with word.now rest.now) }
-    ensures err { OnErr result (IsWhole (says_with word.now rest.now)) }
+    ensures ok { IfOk result (λ meaning. meaning ≡ search_says_with word.now rest.now) }
+    ensures err { OnErr result (IsWholeQuery (search_says_with word.now rest.now)) }
 {
     if word == b"FIND".as_slice() {
         return read_find(alloc, rest);
@@ -73,7 +73,7 @@ fn read_words(alloc: Global, word: &[u8], rest: &[u8]) -> Result<SearchMeaning, 
 #[tactic(auto, unfolding(crate::specs::Grammar::find_of))]
 fn read_find(alloc: Global, rest: &[u8]) -> Result<SearchMeaning, NoMemory>
     ensures ok { IfOk result (λ meaning. meaning ≡ find_of rest.now) }
-    ensures err { OnErr result (IsWhole (find_of rest.now)) }
+    ensures err { OnErr result (IsWholeQuery (find_of rest.now)) }
 {
     let Some((page, text)) = cut(rest) else {
         return Ok(LineMeaning::Refused(QueryRefusal::Path));
@@ -89,7 +89,7 @@ fn read_find(alloc: Global, rest: &[u8]) -> Result<SearchMeaning, NoMemory>
 
 // The text that these bytes are in UTF-8.
 fn text_of(bytes: &[u8]) -> Option<&str>
-    ensures { option_map (λ text. text.now) result ≡ text_of bytes.now }
+    ensures { option_map (λ text. text.now) result ≡ utf8_in bytes.now }
 {
     match str::from_utf8(bytes) {
         Ok(text) => Some(text),

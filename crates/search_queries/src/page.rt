@@ -1,6 +1,6 @@
 //! The pages of the search results.
 ghost use Rattle.std.specs.Prelude.{◌≡◌, ◌≤◌};
-ghost use Rattle.search_queries.specs.Grammar.{page_of};
+ghost use Rattle.search_queries.specs.Grammar.{page_named};
 
 use register_words::number_within;
 use std::marker::Model;
@@ -27,7 +27,7 @@ impl Model for Page {
 impl Page {
     /// The page whose number the word writes in decimal, without sign or leading zero.
     pub fn read(word: &[u8]) -> Option<Self>
-        ensures { result ≡ page_of word.now }
+        ensures { result ≡ page_named word.now }
     {
         match number_within(word, 1, MAX_PAGE) {
             Some(number) => Some(Page { number }),

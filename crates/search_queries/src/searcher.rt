@@ -30,13 +30,13 @@ pub struct Searcher<L: Ledger> {
 }
 
 impl<L: Ledger> Model for Searcher<L> {
-    ghost use Rattle.search_queries.specs.Searchers.{IsNumbered, Searching};
+    ghost use Rattle.search_queries.specs.Searchers.{IsNumberedIfJson, Searching};
 
     ghost Value = { Searching };
 
     ghost view = { λ s. record { form = s.form; table = s.index; steps = s.steps } };
 
-    ghost invariant = { λ s. IsNumbered s.form s.index };
+    ghost invariant = { λ s. IsNumberedIfJson s.form s.index };
 }
 
 impl<L: Ledger> Searcher<L> {

@@ -29,9 +29,9 @@ is_annulled RecordStatus.Annulled = true
 is_annulled _ = false
 
 -- The entity status is ACTIVE.
-abbrev pub is_active : EntityStatus → Bool
-is_active EntityStatus.Active = true
-is_active _ = false
+abbrev pub is_active_entity : EntityStatus → Bool
+is_active_entity EntityStatus.Active = true
+is_active_entity _ = false
 
 -- The entity status is INACTIVE.
 abbrev pub is_inactive : EntityStatus → Bool
@@ -51,7 +51,7 @@ only_with first second = not first || second
 -- INACTIVE alone, and NULL with DUPLICATE and ANNULLED alone. Every other pair is allowed.
 abbrev pub entity_fits : RecordStatus → EntityStatus → Bool
 entity_fits status entity =
-    only_with (is_issued status) (is_active entity)
+    only_with (is_issued status) (is_active_entity entity)
     && only_with (is_retired status) (is_inactive entity)
     && only_with (is_null entity) (is_duplicate status || is_annulled status)
 

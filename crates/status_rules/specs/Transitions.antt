@@ -21,32 +21,32 @@ none = None
 
 -- A row of the table of transitions: who may make the change, for each status that an item may have, in the order of
 -- the columns ISSUED, LAPSED, PENDING_TRANSFER, PENDING_ARCHIVAL, RETIRED, DUPLICATE, ANNULLED.
-abbrev pub Changes : Type 0
-Changes =
+abbrev pub TransitionRow : Type 0
+TransitionRow =
     Option Party × Option Party × Option Party × Option Party × Option Party × Option Party
     × Option Party
 
 -- The row of the held status, or the first row if no record is held.
-abbrev pub changes_from : Option RecordStatus → Changes
-changes_from None = (N, none, none, none, none, none, none)
-changes_from (Some RecordStatus.Issued) = (M, M, M, none, M, M, M)
-changes_from (Some RecordStatus.Lapsed) = (M, M, M, none, M, M, M)
-changes_from (Some RecordStatus.PendingTransfer) = (M, M, M, M, none, none, none)
-changes_from (Some RecordStatus.PendingArchival) = (R, R, M, none, none, none, none)
-changes_from (Some RecordStatus.Retired) = (M, none, none, none, M, none, none)
-changes_from (Some RecordStatus.Duplicate) = (none, none, none, none, none, M, none)
-changes_from (Some RecordStatus.Annulled) = (none, none, none, none, none, none, none)
+abbrev pub transitions_from : Option RecordStatus → TransitionRow
+transitions_from None = (N, none, none, none, none, none, none)
+transitions_from (Some RecordStatus.Issued) = (M, M, M, none, M, M, M)
+transitions_from (Some RecordStatus.Lapsed) = (M, M, M, none, M, M, M)
+transitions_from (Some RecordStatus.PendingTransfer) = (M, M, M, M, none, none, none)
+transitions_from (Some RecordStatus.PendingArchival) = (R, R, M, none, none, none, none)
+transitions_from (Some RecordStatus.Retired) = (M, none, none, none, M, none, none)
+transitions_from (Some RecordStatus.Duplicate) = (none, none, none, none, none, M, none)
+transitions_from (Some RecordStatus.Annulled) = (none, none, none, none, none, none, none)
 
 -- What a row has in the column of the item's status.
-abbrev pub in_column : RecordStatus → Changes → Option Party
-in_column RecordStatus.Issued row = row.0
-in_column RecordStatus.Lapsed row = row.1
-in_column RecordStatus.PendingTransfer row = row.2
-in_column RecordStatus.PendingArchival row = row.3
-in_column RecordStatus.Retired row = row.4
-in_column RecordStatus.Duplicate row = row.5
-in_column RecordStatus.Annulled row = row.6
+abbrev pub party_in_column : RecordStatus → TransitionRow → Option Party
+party_in_column RecordStatus.Issued row = row.0
+party_in_column RecordStatus.Lapsed row = row.1
+party_in_column RecordStatus.PendingTransfer row = row.2
+party_in_column RecordStatus.PendingArchival row = row.3
+party_in_column RecordStatus.Retired row = row.4
+party_in_column RecordStatus.Duplicate row = row.5
+party_in_column RecordStatus.Annulled row = row.6
 
 -- Who may change the held status to the item's status, or nobody if the change isn't permitted.
 abbrev pub party : Option RecordStatus → RecordStatus → Option Party
-party old new = in_column new (changes_from old)
+party old new = party_in_column new (transitions_from old)

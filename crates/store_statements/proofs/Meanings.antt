@@ -10,7 +10,7 @@ use Rattle.sqlite.specs.Listing.{understood, reads_listing}
 use Rattle.sqlite.proofs.Callers.{IsPlain, command_of, statement_of}
 use Rattle.store_statements.specs.Texts.{entry_table_text, cell_table_text, store_table_text, cell2_table_text, last_text, entries_text, cells_text, insert_text, put_text, form_text, set_form_text, page_text, clear_text}
 use Rattle.store_statements.specs.Schemas.{entry_table, cell_table, store_table, cell2_table, no_schema, entry_schema, both_schema, store_schema, whole_schema}
-use Rattle.store_statements.specs.Commands.{entries_query, cells_query, last_query, alone, insert_terms, put_terms, put_clause, form_query, form_terms, page_query, clear_query}
+use Rattle.store_statements.specs.Commands.{entries_query, cells_query, last_query, plain_query, insert_terms, put_terms, put_clause, form_query, form_terms, page_query, clear_query}
 
 pub entry_table_is : table_defined_by entry_table_text ≡ Ok entry_table
 unfolding understood everything
@@ -36,19 +36,19 @@ unfolding understood everything
 schemas_are = (refl, refl, refl, refl)
 
 pub entries_is : (command_of (understood whole_schema entries_text)
-    ≡ Select (alone entries_query)
+    ≡ Select (plain_query entries_query)
     (codes "seq" ∷ codes "kind" ∷ codes "office" ∷ codes "number" ∷ codes "moment" ∷ codes "rules"
     ∷ codes "body" ∷ codes "answer" ∷ [])) × (reads_listing whole_schema entries_text ≡ false)
 unfolding understood everything
 entries_is = (refl, refl)
 
 pub cells_is : (command_of (understood whole_schema cells_text)
-    ≡ Select (alone cells_query) (codes "kind" ∷ codes "lei" ∷ codes "rest" ∷ codes "touched" ∷ codes "row" ∷ []))
+    ≡ Select (plain_query cells_query) (codes "kind" ∷ codes "lei" ∷ codes "rest" ∷ codes "touched" ∷ codes "row" ∷ []))
     × (reads_listing whole_schema cells_text ≡ false)
 unfolding understood everything
 cells_is = (refl, refl)
 
-pub last_is : (command_of (understood whole_schema last_text) ≡ Select (alone last_query) (codes "seq" ∷ []))
+pub last_is : (command_of (understood whole_schema last_text) ≡ Select (plain_query last_query) (codes "seq" ∷ []))
     × (reads_listing whole_schema last_text ≡ false)
 unfolding understood everything
 last_is = (refl, refl)
@@ -63,18 +63,18 @@ unfolding understood everything
 put_is = refl
 
 pub form_is : (command_of (understood whole_schema form_text)
-    ≡ Select (alone form_query) (codes "one" ∷ codes "form" ∷ [])) × (reads_listing whole_schema form_text ≡ false)
+    ≡ Select (plain_query form_query) (codes "one" ∷ codes "form" ∷ [])) × (reads_listing whole_schema form_text ≡ false)
 unfolding understood everything
 form_is = (refl, refl)
 
 pub page_is : (command_of (understood whole_schema page_text)
-    ≡ Select (alone page_query)
+    ≡ Select (plain_query page_query)
     (codes "rowid" ∷ codes "kind" ∷ codes "name" ∷ codes "touched" ∷ codes "row" ∷ []))
     × (reads_listing whole_schema page_text ≡ false)
 unfolding understood everything
 page_is = (refl, refl)
 
-pub clear_is : command_of (understood whole_schema clear_text) ≡ Delete 1 (alone clear_query)
+pub clear_is : command_of (understood whole_schema clear_text) ≡ Delete 1 (plain_query clear_query)
 unfolding understood everything
 clear_is = refl
 

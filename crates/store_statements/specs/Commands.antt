@@ -11,8 +11,8 @@ use Rattle.sqlite_schema.specs.declared.program.Program.{Program}
 use Rattle.sqlite_schema.specs.declared.command.Upsert.{Upsert}
 
 -- Ascending or descending, by the order of values.
-abbrev pub up : Key
-up = record { collation = Binary; descending = false }
+abbrev pub ascending_key : Key
+ascending_key = record { collation = Binary; descending = false }
 
 -- A descending order, byte by byte.
 abbrev pub down : Key
@@ -40,7 +40,7 @@ entries_query = record {
   project = col 1 0 ∷ col 1 2 ∷ col 1 3 ∷ col 1 4 ∷ col 1 5 ∷ col 1 6 ∷ col 1 7 ∷ col 1 8 ∷ [];
   distinct = false;
   collations = [];
-  order = (col 1 0, up) ∷ [];
+  order = (col 1 0, ascending_key) ∷ [];
   limit = no_limit;
   offset = no_offset;
 }
@@ -54,7 +54,7 @@ cells_query = record {
   project = col 1 1 ∷ col 1 2 ∷ col 1 3 ∷ col 1 4 ∷ col 1 5 ∷ [];
   distinct = false;
   collations = [];
-  order = (col 1 1, up) ∷ (col 1 2, up) ∷ (col 1 3, up) ∷ [];
+  order = (col 1 1, ascending_key) ∷ (col 1 2, ascending_key) ∷ (col 1 3, ascending_key) ∷ [];
   limit = no_limit;
   offset = no_offset;
 }
@@ -74,8 +74,8 @@ last_query = record {
 }
 
 -- A query that computes no table of its own.
-abbrev pub alone : Query → Program
-alone query = record { lets = []; body = query }
+abbrev pub plain_query : Query → Program
+plain_query query = record { lets = []; body = query }
 
 -- The row of the entry whose values are the parameters.
 abbrev pub insert_terms : List Term
@@ -102,7 +102,7 @@ put_query = record {
 
 -- If there is a cell with the kind and the name, it gets the entry and the row.
 abbrev pub put_clause : Upsert
-put_clause = record { target = Some (1 ∷ 2 ∷ 3 ∷ []); update = Some (alone put_query) }
+put_clause = record { target = Some (1 ∷ 2 ∷ 3 ∷ []); update = Some (plain_query put_query) }
 
 -- ---- the form, and the move from form 1 to form 2
 
@@ -133,7 +133,7 @@ page_query = record {
   project = col 1 0 ∷ col 1 1 ∷ col 1 2 ∷ col 1 3 ∷ col 1 4 ∷ [];
   distinct = false;
   collations = [];
-  order = (col 1 0, up) ∷ [];
+  order = (col 1 0, ascending_key) ∷ [];
   limit = lit (Int (pos 100));
   offset = no_offset;
 }

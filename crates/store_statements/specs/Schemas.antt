@@ -113,25 +113,25 @@ cell2_table = record {
 }
 
 -- An index that SQLite makes for a key of a table of cells: the table with this tree.
-abbrev pub index_of : ℕ → List ℕ → ℕ → List ℕ → Index
-index_of table name tree places =
+abbrev pub key_index : ℕ → List ℕ → ℕ → List ℕ → Index
+key_index table name tree places =
     record { name = name; tree = tree; table = table; columns = places; order = plain; is_unique = true }
 
 -- The index of cells of form 1 by kind and name.
 abbrev pub by_name : Index
-by_name = index_of 1 (codes "sqlite_autoindex_cell_1") 2 (1 ∷ 2 ∷ [])
+by_name = key_index 1 (codes "sqlite_autoindex_cell_1") 2 (1 ∷ 2 ∷ [])
 
 -- The index of cells of form 1 by the entry that touched them last, kind and name.
 abbrev pub by_entry : Index
-by_entry = index_of 1 (codes "sqlite_autoindex_cell_2") 3 (3 ∷ 1 ∷ 2 ∷ [])
+by_entry = key_index 1 (codes "sqlite_autoindex_cell_2") 3 (3 ∷ 1 ∷ 2 ∷ [])
 
 -- The index of cells of form 2 by kind and the two parts of the name.
 abbrev pub by_parts : Index
-by_parts = index_of 5 (codes "sqlite_autoindex_cell2_1") 6 (1 ∷ 2 ∷ 3 ∷ [])
+by_parts = key_index 5 (codes "sqlite_autoindex_cell2_1") 6 (1 ∷ 2 ∷ 3 ∷ [])
 
 -- The index of cells of form 2 by the entry that touched them last, kind and the two parts of the name.
 abbrev pub by_entry2 : Index
-by_entry2 = index_of 5 (codes "sqlite_autoindex_cell2_2") 7 (4 ∷ 1 ∷ 2 ∷ 3 ∷ [])
+by_entry2 = key_index 5 (codes "sqlite_autoindex_cell2_2") 7 (4 ∷ 1 ∷ 2 ∷ 3 ∷ [])
 
 -- The schema of a store whose tables aren't made yet.
 abbrev pub no_schema : Schema

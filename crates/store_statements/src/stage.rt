@@ -7,7 +7,7 @@ ghost use Rattle.sqlite_sql.specs.declared.ops.CompareOp.TheVariants.{Ge};
 ghost use Rattle.sqlite_value.specs.Keys.{plain};
 ghost use Rattle.sqlite_schema.specs.Code.{term_in};
 ghost use Rattle.store_statements.specs.Checks.{node_at};
-ghost use Rattle.store_statements.specs.Schemas.{at_least_one, both_schema, by_entry, by_entry2, by_name, by_parts, cell_table, cell2_table, column_of, entry_schema, entry_table, index_of, no_schema, no_stamps, store_schema, store_table, whole_schema};
+ghost use Rattle.store_statements.specs.Schemas.{at_least_one, both_schema, by_entry, by_entry2, by_name, by_parts, cell_table, cell2_table, column_of, entry_schema, entry_table, key_index, no_schema, no_stamps, store_schema, store_table, whole_schema};
 
 use sqlite_items::Items;
 use sqlite_schema::code::{Op, Terms};
@@ -272,7 +272,7 @@ fn is_store_table(table: &Table) -> bool
 
 // An index of a table, by the table's tree and by the index's name, tree and places.
 fn is_index(index: &Index, table: u32, name: &[u8], tree: u32, places: &[usize]) -> bool
-    ensures { IsTrue result ↔ (index.now ≡ index_of table name.now tree places.now) }
+    ensures { IsTrue result ↔ (index.now ≡ key_index table name.now tree places.now) }
 {
     if index.name.as_slice() != name || index.tree != tree || index.table != table {
         return false;

@@ -17,10 +17,10 @@ use Rattle.store_statements.specs.Rows.{cell_row, entry_row}
 use Rattle.store_statements.specs.Schemas.{whole_schema}
 use Rattle.store_statements.specs.Texts.{cells_text, entries_text, insert_text, last_text, put_text}
 use Rattle.store_statements.proofs.Meanings.{cells_is, cells_plain, entries_is, entries_plain, last_is, last_plain}
-use Rattle.store_tables.specs.Calls.{Holds, IsInside, IsNext, IsReady, IsSteady, IsWhole, Tells, Turns, last_rows, with_cell, with_cells, with_entry}
+use Rattle.store_tables.specs.Calls.{ChangesTables, HasNextNumber, HoldsTables, IsInside, IsReadyStore, IsSteady, IsWholeStore, TellsTables, last_rows, tables_with_cell, tables_with_entry, with_cells}
 use Rattle.store_tables.specs.Stored.{cell_fits, entry_fits, is_entry_number}
 use Rattle.store_tables.proofs.SameLemmas.{both_of}
-use Rattle.store_tables.specs.Told.{says_second, told_by}
+use Rattle.store_tables.specs.Told.{says_second, told_in_trees}
 use Rattle.store_tables.proofs.CrashLemmas.{told_tells}
 use Rattle.store_tables.proofs.CellReading.{cells_answer}
 use Rattle.store_tables.proofs.CellWriting.{puts}
@@ -37,24 +37,24 @@ pub plain_under : (s : Schema) (sql : List ℕ) → s ≡ whole_schema → IsPla
 plain_under s sql is plain = subst (λ x. IsPlain (understood x sql)) (sym is) plain
 
 -- what is told afterwards was told before, for a store that holds it
-held : (old new : State) (t : KeptTables) → IsReady old → IsUnchanged old new
-    → told_by new.now.schema new.now.trees ≡ Some t → HasRows old.now t
+held : (old new : State) (t : KeptTables) → IsReadyStore old → IsUnchanged old new
+    → told_in_trees new.now.schema new.now.trees ≡ Some t → HasRows old.now t
 held old new t ready same told =
     hold_rows old.now t
     (told_tells old.now.schema old.now.trees t ready.whole.schema (ready.whole.sound same.0.was_open) ready.second
-    (subst (λ (d : Database). told_by d.schema d.trees ≡ Some t) same.0.now_is told)).holds
+    (subst (λ (d : Database). told_in_trees d.schema d.trees ≡ Some t) same.0.now_is told)).holds
 
-pub last_told : (old new : State) (rows : List Row) (t : KeptTables) → IsReady old
-    → Shown last_text [] old new rows → told_by new.now.schema new.now.trees ≡ Some t → rows ≡ last_rows t
+pub last_told : (old new : State) (rows : List Row) (t : KeptTables) → IsReadyStore old
+    → Shown last_text [] old new rows → told_in_trees new.now.schema new.now.trees ≡ Some t → rows ≡ last_rows t
 last_told old new rows t ready h told =
     let same = shown_unchanged last_text [] old new rows (plain_under _ last_text ready.whole.schema last_plain) h in
     let it = held old new t ready same told in
     let a = reads_as last_text [] old new whole_schema ready.whole.schema _ last_is.0 last_plain last_is.1 rows h in
     last_answer old.now.trees rows it.told.entries (a.answer Null) ∙ ap last_rows (sym it.is)
 
-pub entries_told : (after upto : ℕ) (old new : State) (rows : List Row) (t : KeptTables) → IsReady old
+pub entries_told : (after upto : ℕ) (old new : State) (rows : List Row) (t : KeptTables) → IsReadyStore old
     → Shown entries_text (range after upto) old new rows
-    → told_by new.now.schema new.now.trees ≡ Some t → rows ≡ map entry_row (entries_between after upto t)
+    → told_in_trees new.now.schema new.now.trees ≡ Some t → rows ≡ map entry_row (entries_between after upto t)
 entries_told after upto old new rows t ready h told =
     let same = shown_unchanged entries_text (range after upto) old new rows
     (plain_under _ entries_text ready.whole.schema entries_plain) h in
@@ -64,9 +64,9 @@ entries_told after upto old new rows t ready h told =
     entries_answer after upto old.now.trees rows it.told.entries (a.answer Null)
     ∙ ap (λ x. map entry_row (entries_between after upto x)) (sym it.is)
 
-pub cells_told : (after upto : ℕ) (old new : State) (rows : List Row) (t : KeptTables) → IsReady old
+pub cells_told : (after upto : ℕ) (old new : State) (rows : List Row) (t : KeptTables) → IsReadyStore old
     → Shown cells_text (range after upto) old new rows
-    → told_by new.now.schema new.now.trees ≡ Some t → rows ≡ map cell_row (cells_between after upto t)
+    → told_in_trees new.now.schema new.now.trees ≡ Some t → rows ≡ map cell_row (cells_between after upto t)
 cells_told after upto old new rows t ready h told =
     let same = shown_unchanged cells_text (range after upto) old new rows
     (plain_under _ cells_text ready.whole.schema cells_plain) h in
@@ -122,39 +122,39 @@ cell_within c low high kind = both_of _ _ (number_fits c.touched low high) (test
 
 pub turns_insert : (old new : State) (e : KeptEntry) (count : ℕ) → EntryRanges e
     → ExecutesInside 0 insert_text (entry_row e) old new (Ok count)
-    → Turns (with_entry e) (IsNext e) old new
+    → ChangesTables (tables_with_entry e) (HasNextNumber e) old new
 turns_insert old new e count ranges h = record {
   inside = ran_inside insert_text (entry_row e) old new count h;
   holds = λ t next holds.
       let it = hold_rows old.now t holds in
       let made = inserts old new e count holds.whole h.0 in
       let fits = entry_within e (omega (arith, next)) ranges in (
-        rows_hold new.now (with_entry e t) (rows_insert old.now new.now t e it made fits next),
+        rows_hold new.now (tables_with_entry e t) (rows_insert old.now new.now t e it made fits next),
         made.form,
       );
 }
 
 pub turns_put : (old new : State) (c : KeptCell) (count : ℕ) → c.touched ≤ 9223372036854775807
     → c.kind < 2 ^ 8 → ExecutesInside 0 put_text (cell_row c) old new (Ok count)
-    → Turns (with_cell c) (λ _. 1 ≤ c.touched) old new
+    → ChangesTables (tables_with_cell c) (λ _. 1 ≤ c.touched) old new
 turns_put old new c count high kind h = record {
   inside = ran_inside put_text (cell_row c) old new count h;
   holds = λ t low holds.
       let it = hold_rows old.now t holds in
       let fits = cell_within c low high kind in
       let made = puts old new c count holds.whole fits it.told.cells (rows_apart old.now t it) h.0 in
-      (rows_hold new.now (with_cell c t) (rows_put old.now new.now t c it made fits), made.form);
+      (rows_hold new.now (tables_with_cell c t) (rows_put old.now new.now t c it made fits), made.form);
 }
 
 pub turns_none : (s : State) (P : KeptTables → Type 0) → IsTrue s.is_open → IsTrue s.in_transaction
-    → Turns (with_cells []) P s s
+    → ChangesTables (with_cells []) P s s
 turns_none s P live mode = record {
   inside = record { was_open = live; is_open = live; committed = refl; mode = mode };
   holds = λ t fits holds. (holds, (refl, refl));
 }
 
 pub turns_then : (f g : KeptTables → KeptTables) (P Q R : KeptTables → Type 0) (a b c : State)
-    → ((t : KeptTables) → R t → P t × Q (f t)) → Turns f P a b → Turns g Q b c → Turns (λ t. g (f t)) R a c
+    → ((t : KeptTables) → R t → P t × Q (f t)) → ChangesTables f P a b → ChangesTables g Q b c → ChangesTables (λ t. g (f t)) R a c
 turns_then f g P Q R a b c fits one two = record {
   inside = record {
     was_open = one.inside.was_open;
@@ -172,8 +172,8 @@ turns_then f g P Q R a b c fits one two = record {
 
 -- In a store of form 2 the told tables become what the function makes of them.
 pub turns_tells : (change : KeptTables → KeptTables) (Fits : KeptTables → Type 0) (old new : State)
-    (t : KeptTables) → Turns change Fits old new → Fits t → Tells old.now.schema old.now.trees t
-    → Tells new.now.schema new.now.trees (change t)
+    (t : KeptTables) → ChangesTables change Fits old new → Fits t → TellsTables old.now.schema old.now.trees t
+    → TellsTables new.now.schema new.now.trees (change t)
 turns_tells change Fits old new t turns fits tells =
     let it = turns.holds t fits tells.holds in
     record {
@@ -184,21 +184,21 @@ turns_tells change Fits old new t turns fits tells =
 
 -- the cells so far and one more
 pub one_more : (front : List KeptCell) (c : KeptCell) (t : KeptTables)
-    → with_cell c (with_cells front t) ≡ with_cells (front ++ c ∷ []) t
+    → tables_with_cell c (with_cells front t) ≡ with_cells (front ++ c ∷ []) t
 one_more front c t = ap (λ cells. record { entries = t.entries; cells = cells })
     (sym (fold-append put_cell t.cells front (c ∷ [])))
 
 pub cells_more : (front : List KeptCell) (c : KeptCell) (P : KeptTables → Type 0) (a b d : State)
     → ((t : KeptTables) → P t → 1 ≤ c.touched)
-    → Turns (with_cells front) P a b → Turns (with_cell c) (λ _. 1 ≤ c.touched) b d
-    → Turns (with_cells (front ++ c ∷ [])) P a d
+    → ChangesTables (with_cells front) P a b → ChangesTables (tables_with_cell c) (λ _. 1 ≤ c.touched) b d
+    → ChangesTables (with_cells (front ++ c ∷ [])) P a d
 cells_more front c P a b d low one two =
-    let both = turns_then (with_cells front) (with_cell c) P (λ _. 1 ≤ c.touched) P a b d
+    let both = turns_then (with_cells front) (tables_with_cell c) P (λ _. 1 ≤ c.touched) P a b d
     (λ t p. (p, low t p)) one two in
     record {
       inside = both.inside;
       holds = λ t p holds. let it = both.holds t p holds in
-          (subst (Holds d.now.schema d.now.trees) (one_more front c t) it.0, it.1);
+          (subst (HoldsTables d.now.schema d.now.trees) (one_more front c t) it.0, it.1);
     }
 
 -- ---- the clauses of the functions that run the statements
@@ -208,7 +208,7 @@ if_ok (Ok x) P Q then h = then x h
 if_ok (Err e) P Q then h = tt
 
 pub whole_steady : {X : Type 0} (sql : List ℕ) (params : Row) (old new : State) (show : X → List Row)
-    (r : Result X Error) → (HasCleanDisk old → IsWhole old)
+    (r : Result X Error) → (HasCleanDisk old → IsWholeStore old)
     → IsPlain (understood whole_schema sql) → (old.in_transaction ≡ false → new.in_transaction ≡ false)
     → (HasCleanDisk new → IfOk r (λ rows. Shown sql params old new (show rows)))
     → (HasCleanDisk new → IfErr r (FailsToQuery sql params old new))
@@ -221,7 +221,7 @@ whole_steady sql params old new show r whole plain mode ok err survives =
     earlier clean = omega (arith, survives.clean, clean)
 
 pub ready_steady : {X : Type 0} (sql : List ℕ) (params : Row) (old new : State) (show : X → List Row)
-    (r : Result X Error) → (HasCleanDisk old → IsReady old)
+    (r : Result X Error) → (HasCleanDisk old → IsReadyStore old)
     → IsPlain (understood whole_schema sql) → (old.in_transaction ≡ false → new.in_transaction ≡ false)
     → (HasCleanDisk new → IfOk r (λ rows. Shown sql params old new (show rows)))
     → (HasCleanDisk new → IfErr r (FailsToQuery sql params old new))
@@ -230,12 +230,12 @@ ready_steady sql params old new show r ready =
     whole_steady sql params old new show r (λ clean. (ready clean).whole)
 
 pub adds_entry : (old new : State) (e : KeptEntry) (r : Result ℕ Error) → EntryRanges e
-    → ExecutesInside 0 insert_text (entry_row e) old new r → OnOk r (Turns (with_entry e) (IsNext e) old new)
+    → ExecutesInside 0 insert_text (entry_row e) old new r → OnOk r (ChangesTables (tables_with_entry e) (HasNextNumber e) old new)
 adds_entry old new e (Ok count) ranges h = turns_insert old new e count ranges h
 adds_entry old new e (Err error) ranges h = tt
 
 pub puts_cell : (old new : State) (c : KeptCell) (r : Result ℕ Error) → c.touched ≤ 9223372036854775807
     → c.kind < 2 ^ 8 → ExecutesInside 0 put_text (cell_row c) old new r
-    → OnOk r (Turns (with_cell c) (λ _. 1 ≤ c.touched) old new)
+    → OnOk r (ChangesTables (tables_with_cell c) (λ _. 1 ≤ c.touched) old new)
 puts_cell old new c (Ok count) high kind h = turns_put old new c count high kind h
 puts_cell old new c (Err error) high kind h = tt

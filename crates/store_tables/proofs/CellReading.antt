@@ -18,7 +18,7 @@ use Rattle.store_statements.specs.Commands.{cells_query, no_limit, within}
 use Rattle.store_statements.specs.Rows.{cell_row}
 use Rattle.store_statements.specs.Names.{lei_of, rest_of}
 use Rattle.store_tables.specs.Stored.{cell2_of, form_2, stored_cell2}
-use Rattle.store_tables.specs.Told.{placed}
+use Rattle.store_tables.specs.Told.{place_and_content}
 use Rattle.store_tables.proofs.EntryReading.{between, cell_number, in_range, range}
 use Rattle.store_tables.proofs.NameLemmas.{parts_order}
 use Rattle.store_tables.proofs.PlaceLemmas.{Apart, before, in_order, pos_cmp}
@@ -71,25 +71,25 @@ module _ (after upto : ℕ) where
 
   shown_rows : (rows : List Row) → AllByRecursion (IsCell form_2) rows
       → map (λ o. o.1) (map cell_shown (filter cell_passes rows))
-      ≡ map cell_row (filter (λ c. between after upto c.touched) (map cell_at (map (placed form_2) rows)))
+      ≡ map cell_row (filter (λ c. between after upto c.touched) (map cell_at (map (place_and_content form_2) rows)))
   shown_rows [] all = refl
   shown_rows (r ∷ rows) all = go (cell_passes r) (passes_is r all.0) (shown_rows rows all.1)
     where
       go : (b : Bool) → b ≡ between after upto (cell2_of r).touched
           → map (λ (o : Output). o.1) (map cell_shown (filter cell_passes rows))
-          ≡ map cell_row (filter (λ c. between after upto c.touched) (map cell_at (map (placed form_2) rows)))
+          ≡ map cell_row (filter (λ c. between after upto c.touched) (map cell_at (map (place_and_content form_2) rows)))
           → map (λ (o : Output). o.1)
           (map cell_shown (cond b (r ∷ filter cell_passes rows) (filter cell_passes rows)))
           ≡ map cell_row (cond (between after upto (cell2_of r).touched)
-          (cell2_of r ∷ filter (λ c. between after upto c.touched) (map cell_at (map (placed form_2) rows)))
-          (filter (λ c. between after upto c.touched) (map cell_at (map (placed form_2) rows))))
+          (cell2_of r ∷ filter (λ c. between after upto c.touched) (map cell_at (map (place_and_content form_2) rows)))
+          (filter (λ c. between after upto c.touched) (map cell_at (map (place_and_content form_2) rows))))
       go true is more = rw (← is) (ap₂ ◌∷◌ (shows_is r all.0) more)
       go false is more = rw (← is) more
 
   pub cells_answer : (db : Trees) (rows : List Row) → AreCells form_2 (db 5) → Apart form_2 (db 5)
       → IsAnswer cells_query (overlay db []) (range after upto) rows
       → rows ≡ map cell_row (filter (λ c. between after upto c.touched)
-      (map cell_at (entries (from_entries {R = slice_cmp nat_cmp} (map (placed form_2) (db 5))))))
+      (map cell_at (entries (from_entries {R = slice_cmp nat_cmp} (map (place_and_content form_2) (db 5))))))
   cells_answer db rows are apart a =
       let o = in_order form_2 (db 5) apart are.each in
       let all = map cell_shown (filter cell_passes o.all) in

@@ -39,9 +39,9 @@ use Rattle.sqlite_schema.specs.declared.schema.Keys.{Keys}
 use Rattle.sqlite.specs.State.{State, Executes, mode_of}
 use Rattle.sqlite.specs.Listing.{understood}
 use Rattle.sqlite.proofs.Callers.{one_step, runs_as, statement_of}
-use Rattle.lei_outside.specs.Keeping.{CellPlace, place_of}
+use Rattle.lei_outside.specs.Keeping.{CellPlace, cell_place}
 use Rattle.lei_outside.specs.declared.keeper.KeptCell.{KeptCell}
-use Rattle.store_statements.specs.Commands.{alone, no_limit, put_clause, put_query, put_terms}
+use Rattle.store_statements.specs.Commands.{no_limit, plain_query, put_clause, put_query, put_terms}
 use Rattle.store_statements.specs.Rows.{cell_row}
 use Rattle.store_statements.specs.Names.{lei_of, rest_of}
 use Rattle.store_statements.specs.Schemas.{by_entry, by_entry2, by_name, by_parts, cell2_table, whole_schema}
@@ -49,7 +49,7 @@ use Rattle.store_statements.specs.Texts.{put_text}
 use Rattle.store_statements.proofs.Meanings.{put_is, put_plain}
 use Rattle.store_tables.specs.Calls.{KeepsForm}
 use Rattle.store_tables.specs.Stored.{cell2_of, cell_fits, form_2, stored_cell2}
-use Rattle.store_tables.specs.Told.{placed}
+use Rattle.store_tables.specs.Told.{place_and_content}
 use Rattle.store_tables.proofs.EntryWriting.{not_taken}
 use Rattle.store_tables.proofs.NameLemmas.{joined_again}
 use Rattle.store_tables.proofs.PlaceLemmas.{Apart, agree2_is, by_both, none_true, place, same_place}
@@ -64,9 +64,9 @@ use Rattle.store_tables.proofs.WriteLemmas.{cast_int, cast_null, same_value, wen
 -- The rows that stay are cells in other places, and each of the old ones in such a place is among them.
 pub record Stay (old rest : List Row) (c : KeptCell) : Type 0 where
   pub are : AreCells form_2 rest
-  pub apart : AllByRecursion (λ s. same_place (place_of c) (place form_2 s) ≡ false) rest
-  pub found : (q : CellPlace) → same_place q (place_of c) ≡ false
-      → find (slice_cmp nat_cmp) q (map (placed form_2) rest) ≡ find (slice_cmp nat_cmp) q (map (placed form_2) old)
+  pub apart : AllByRecursion (λ s. same_place (cell_place c) (place form_2 s) ≡ false) rest
+  pub found : (q : CellPlace) → same_place q (cell_place c) ≡ false
+      → find (slice_cmp nat_cmp) q (map (place_and_content form_2) rest) ≡ find (slice_cmp nat_cmp) q (map (place_and_content form_2) old)
 
 -- the cell's row is put alongside those that stay, and nothing else changes
 pub record Puts (old new : Database) (c : KeptCell) : Type 0 where
@@ -169,22 +169,22 @@ apart_pair (r ∷ rows) a b apart (inr p) (inr q) = apart_pair rows a b apart.1 
 
 find_rest : (q : CellPlace) (id : ℤ) (rows : List Row)
     → ((x : Row) → Has rows x → has_rowid id x ≡ true → same_place q (place form_2 x) ≡ false)
-    → find (slice_cmp nat_cmp) q (map (placed form_2) (without_rowid id rows))
-    ≡ find (slice_cmp nat_cmp) q (map (placed form_2) rows)
+    → find (slice_cmp nat_cmp) q (map (place_and_content form_2) (without_rowid id rows))
+    ≡ find (slice_cmp nat_cmp) q (map (place_and_content form_2) rows)
 find_rest q id [] gone = refl
 find_rest q id (r ∷ rows) gone = go (has_rowid id r) refl (find_rest q id rows (λ x h. gone x (inr h)))
   where
     go : (b : Bool) → has_rowid id r ≡ b
-        → find (slice_cmp nat_cmp) q (map (placed form_2) (without_rowid id rows))
-        ≡ find (slice_cmp nat_cmp) q (map (placed form_2) rows)
-        → find (slice_cmp nat_cmp) q (map (placed form_2) (without_rowid id (r ∷ rows)))
-        ≡ find (slice_cmp nat_cmp) q (map (placed form_2) (r ∷ rows))
+        → find (slice_cmp nat_cmp) q (map (place_and_content form_2) (without_rowid id rows))
+        ≡ find (slice_cmp nat_cmp) q (map (place_and_content form_2) rows)
+        → find (slice_cmp nat_cmp) q (map (place_and_content form_2) (without_rowid id (r ∷ rows)))
+        ≡ find (slice_cmp nat_cmp) q (map (place_and_content form_2) (r ∷ rows))
     go true e more = rw (e, gone r (inl refl) e) more
-    go false e more = rw e (ap (cond (same_place q (place form_2 r)) (Some (placed form_2 r).1)) more)
+    go false e more = rw e (ap (cond (same_place q (place form_2 r)) (Some (place_and_content form_2 r).1)) more)
 
 -- The row with the id of a cell of this place is removed.
 stay_without : (rows : List Row) (r : Row) (id : ℤ) (c : KeptCell) → AreCells form_2 rows → Apart form_2 rows → Has rows r
-    → rowid r ≡ Int id → place form_2 r ≡ place_of c → Stay rows (without_rowid id rows) c
+    → rowid r ≡ Int id → place form_2 r ≡ cell_place c → Stay rows (without_rowid id rows) c
 stay_without rows r id c are apart has is same =
     let only : (x : Row) → Has rows x → has_rowid id x ≡ true → x ≡ r = λ x h e.
     elim (subst (λ xs. Has xs x) (one_with rows r id are.rise has is) (has_kept (has_rowid id) rows x h e))
@@ -195,7 +195,7 @@ stay_without rows r id c are apart has is same =
         each = all-filter
             (IsCell form_2) (λ x. not (has_rowid id x)) rows are.each;
       };
-      apart = all_from (λ s. same_place (place_of c) (place form_2 s) ≡ false) (without_rowid id rows) (λ s h.
+      apart = all_from (λ s. same_place (cell_place c) (place form_2 s) ≡ false) (without_rowid id rows) (λ s h.
           let it = has_filtered (λ x. not (has_rowid id x)) rows s h in
           elim (apart_pair rows r s apart has it.0) [
             | inl one ↦ absurd (true≢false
@@ -248,19 +248,19 @@ stay_all : (rows : List Row) (found : List Row) (id : ℤ) (c : KeptCell) → ce
     → Stay rows rows c
 stay_all rows found id c fits are conflict none = record {
   are = are;
-  apart = all_from (λ s. same_place (place_of c) (place form_2 s) ≡ false) rows (λ s h.
+  apart = all_from (λ s. same_place (cell_place c) (place form_2 s) ≡ false) rows (λ s h.
       let new = cell_is_cell id c fits in
       let is = all_has (IsCell form_2) rows s are.each h in
       let differs : agree plain by_both s by_both (stored_cell2 id c) ≡ false = none_true _ (λ same.
       subst (λ xs. Has xs (rowid s ∷ [])) none
       (conflict.complete s h (conflict_is (stored_cell2 id c) s ∙ same))) in
-      apart_symm (place_of c) (place form_2 s)
-      ∙ (ap (λ x. same_place (place form_2 s) (place_of x)) (sym (cell_again id c))
+      apart_symm (cell_place c) (place form_2 s)
+      ∙ (ap (λ x. same_place (place form_2 s) (cell_place x)) (sym (cell_again id c))
       ∙ (sym (agree2_is s (stored_cell2 id c) is new) ∙ differs)));
   found = λ q other. refl;
 }
 
-same_cell : (c0 c : KeptCell) → place_of c0 ≡ place_of c → record c0 { touched = c.touched; row = c.row } ≡ c
+same_cell : (c0 c : KeptCell) → cell_place c0 ≡ cell_place c → record c0 { touched = c.touched; row = c.row } ≡ c
 unfolding head_of tail_of
 same_cell c0 c same = λ i. record { kind = (kinds i); name = (names i); touched = c.touched; row = c.row }
   where
@@ -337,7 +337,7 @@ module _ (limit : Option ℕ) (keys : Keys) (c : KeptCell) (fits : cell_fits c �
       filter_same (put_passes id there) (has_rowid (id_in (column r 0))) (db 5) each
       ∙ one_with (db 5) r (id_in (column r 0)) are.rise has (ap rowid is.0)
 
-  over_cast : (r : Row) → IsCell form_2 r → place form_2 r ≡ place_of c
+  over_cast : (r : Row) → IsCell form_2 r → place form_2 r ≡ cell_place c
       → cast_row cell2_table (column r 0 ∷ column r 1 ∷ column r 2 ∷ column r 3 ∷ Int (pos c.touched) ∷ or_null Blob c.row
       ∷ []) ≡ stored_cell2 (id_in (column r 0)) c
   over_cast r is same =
@@ -352,7 +352,7 @@ module _ (limit : Option ℕ) (keys : Keys) (c : KeptCell) (fits : cell_fits c �
   put_over : (id : ℤ) (there : Row) (more found : List Row) (w : Written)
       → AreConflicts (Some by_both) whole_schema.indexes cell2_table (db 5) (stored_cell2 id c) found
       → found ≡ there ∷ more
-      → rows.Updates task (alone put_query) (given id there) db (Ok w) → Put w.trees
+      → rows.Updates task (plain_query put_query) (given id there) db (Ok w) → Put w.trees
   put_over id there more found w conflict some h =
       let sound = conflict.sound there (subst (λ xs. Has xs there) (sym some) (inl refl)) in
       let r = sound.0 in
@@ -360,10 +360,10 @@ module _ (limit : Option ℕ) (keys : Keys) (c : KeptCell) (fits : cell_fits c �
       let rid = id_in (column r 0) in
       let agrees : agree plain by_both r by_both (stored_cell2 id c)
       ≡ true = sym (conflict_is (stored_cell2 id c) r) ∙ sound.2 in
-      let tie : same_place (place form_2 r) (place_of c) ≡ true =
-      ap (λ x. same_place (place form_2 r) (place_of x)) (sym (cell_again id c))
+      let tie : same_place (place form_2 r) (cell_place c) ≡ true =
+      ap (λ x. same_place (place form_2 r) (cell_place x)) (sym (cell_again id c))
       ∙ (sym (agree2_is r (stored_cell2 id c) is (cell_is_cell id c fits)) ∙ agrees) in
-      let same = tied (place form_2 r) (place_of c) tie in
+      let same = tied (place form_2 r) (cell_place c) tie in
       let it = went h in
       let one = matched id there r sound.1 is sound.3 in
       let a : IsAnswer put_query (overlay db []) (given id there) it.0 = it.1.answer Null in

@@ -9,13 +9,13 @@ use Rattle.sqlite_value.specs.declared.value.Value.TheVariants.{Int}
 use Rattle.sqlite_value.specs.Order.{Row, column, value_cmp}
 use Rattle.sqlite_rules.specs.Edit.{id_in}
 use Rattle.sqlite_trees.specs.Tree.{rowid}
-use Rattle.lei_outside.specs.Keeping.{KeptTables, content_of, place_of}
+use Rattle.lei_outside.specs.Keeping.{KeptTables, cell_content, cell_place}
 use Rattle.lei_outside.specs.declared.keeper.KeptCell.{KeptCell}
-use Rattle.store_statements.specs.Names.{AreParts, lei_of, rest_of}
+use Rattle.store_statements.specs.Names.{AreNameParts, lei_of, rest_of}
 use Rattle.store_tables.specs.Forms.{first_store, second_store}
 use Rattle.store_tables.specs.Same.{same_row}
-use Rattle.store_tables.specs.Stored.{CellForm, cell_fits, cell_of, entry_of, form_1, form_2, is_cell, is_entry, stored_cell}
-use Rattle.store_tables.specs.Told.{placed, rise, told_as, told_of}
+use Rattle.store_tables.specs.Stored.{CellForm, cell_fits, cell_in_row, entry_of, form_1, form_2, is_cell, is_entry, stored_cell}
+use Rattle.store_tables.specs.Told.{place_and_content, rise, told_as, told_in_rows}
 use Rattle.store_tables.proofs.CellWriting.{cell_again}
 use Rattle.store_tables.proofs.NameLemmas.{parts_again}
 use Rattle.store_tables.proofs.RowLemmas.{told_first, told_second}
@@ -23,7 +23,7 @@ use Rattle.store_tables.proofs.SameLemmas.{row_itself}
 
 -- ---- a name has one pair of parts
 
-pub split_once : (name lei rest : List ℕ) → AreParts lei rest → lei ++ rest ≡ name
+pub split_once : (name lei rest : List ℕ) → AreNameParts lei rest → lei ++ rest ≡ name
     → (lei ≡ lei_of name) × (rest ≡ rest_of name)
 split_once name lei rest are is =
     let it = parts_again lei rest are in (sym it.0 ∙ ap lei_of is, sym it.1 ∙ ap rest_of is)
@@ -31,11 +31,11 @@ split_once name lei rest are is =
 -- ---- the same cells in both forms
 
 row_again : (id : ℤ) (c : KeptCell) (o : Option (List ℕ))
-    → (cell_of (stored_cell id (record c { row = o }))).row ≡ o
+    → (cell_in_row (stored_cell id (record c { row = o }))).row ≡ o
 row_again id c None = refl
 row_again id c (Some b) = refl
 
-first_again : (id : ℤ) (c : KeptCell) → cell_of (stored_cell id c) ≡ c
+first_again : (id : ℤ) (c : KeptCell) → cell_in_row (stored_cell id c) ≡ c
 first_again id c = λ i. record c { row = row_again id c c.row i }
 
 -- a form whose rows say which cell they have
@@ -85,9 +85,9 @@ module _ (form : CellForm) (says : Says form) where
   all_of (c ∷ cells) = ap₂ ◌&&◌ (is_of c.0 c.1) (all_of cells)
 
   placed_of : (cells : List (ℤ × KeptCell))
-      → map (placed form) (rows_of cells) ≡ map (λ c. (place_of c.1, content_of c.1)) cells
+      → map (place_and_content form) (rows_of cells) ≡ map (λ c. (cell_place c.1, cell_content c.1)) cells
   placed_of [] = refl
-  placed_of (c ∷ cells) = ap₂ ◌∷◌ (λ i. (place_of (says.again c.0 c.1 i), content_of (says.again c.0 c.1 i)))
+  placed_of (c ∷ cells) = ap₂ ◌∷◌ (λ i. (cell_place (says.again c.0 c.1 i), cell_content (says.again c.0 c.1 i)))
       (placed_of cells)
 
   -- what is told depends on the cells alone
@@ -96,7 +96,7 @@ module _ (form : CellForm) (says : Says form) where
       cond ((rise entries && list_all is_entry entries) &&
       (ids_rise cells && list_all (λ c. cell_fits c.1) cells)) (Some (record {
         entries = map entry_of entries;
-        cells = from_entries {R = slice_cmp nat_cmp} (map (λ c. (place_of c.1, content_of c.1)) cells);
+        cells = from_entries {R = slice_cmp nat_cmp} (map (λ c. (cell_place c.1, cell_content c.1)) cells);
       })) None
 
   told_is : (entries : List Row) (cells : List (ℤ × KeptCell))
@@ -106,7 +106,7 @@ module _ (form : CellForm) (says : Says form) where
       (Some (record { entries = map entry_of entries; cells = from_entries (placed_of cells i) })) None
 
 pub both_forms : (entries : List Row) (cells : List (ℤ × KeptCell))
-    → told_of (first_store entries cells) ≡ told_of (second_store entries cells)
+    → told_in_rows (first_store entries cells) ≡ told_in_rows (second_store entries cells)
 both_forms entries cells =
     told_first (first_store entries cells) refl refl
     ∙ (told_is form_1 says_1 entries cells

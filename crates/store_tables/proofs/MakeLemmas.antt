@@ -15,7 +15,7 @@ use Rattle.store_statements.specs.Schemas.{both_schema, cell2_table, cell_table,
 use Rattle.store_statements.specs.Texts.{cell2_table_text, cell_table_text, entry_table_text, store_table_text}
 use Rattle.store_statements.proofs.Meanings.{cell2_table_is, cell_table_is, entry_table_is, keep_entries_is, keep_entries_plain, keep_store_is, keep_store_plain, make_cell2_is, make_cell2_plain, make_cells_is, make_cells_plain, make_entries_is, make_entries_plain, make_store_is, make_store_plain, schemas_are, store_table_is}
 use Rattle.store_tables.specs.Calls.{IsInside, Makes}
-use Rattle.store_tables.specs.Told.{StoredRows, told_by, told_of}
+use Rattle.store_tables.specs.Told.{StoredRows, told_in_rows, told_in_trees}
 use Rattle.store_tables.proofs.CallLemmas.{ran_inside}
 use Rattle.store_tables.proofs.RowLemmas.{rows_in_both, rows_in_entry, rows_in_none, rows_in_store, rows_in_whole}
 use Rattle.store_tables.proofs.WriteLemmas.{same_value, went}
@@ -52,7 +52,7 @@ makes_entries old new count has h =
     record {
       inside = ran_inside entry_table_text [] old new count h;
       schema = schema;
-      told = ap (option_and_then told_of)
+      told = ap (option_and_then told_in_rows)
           (rows_in_entry _ new.now.trees schema
           ∙ (ap (λ rows. Some (record { entries = rows; cells = []; forms = []; cells2 = [] })) it.0.empty
           ∙ sym (rows_in_none _ old.now.trees has)));
@@ -74,7 +74,7 @@ makes_cells old new count has h =
     record {
       inside = ran_inside cell_table_text [] old new count h;
       schema = schema;
-      told = ap (option_and_then told_of)
+      told = ap (option_and_then told_in_rows)
           (rows_in_both _ new.now.trees schema ∙ (rows ∙ sym (rows_in_entry _ old.now.trees has)));
     }
 
@@ -104,7 +104,7 @@ makes_store old new count has h =
     record {
       inside = ran_inside store_table_text [] old new count h;
       schema = schema;
-      told = ap (option_and_then told_of)
+      told = ap (option_and_then told_in_rows)
           (rows_in_store _ new.now.trees schema ∙ (rows ∙ sym (rows_in_both _ old.now.trees has)));
     }
 
@@ -139,7 +139,7 @@ makes_cell2 old new count has h =
     record {
       inside = ran_inside cell2_table_text [] old new count h;
       schema = schema;
-      told = ap (option_and_then told_of)
+      told = ap (option_and_then told_in_rows)
           (rows_in_whole _ new.now.trees schema ∙ (rows ∙ sym (rows_in_store _ old.now.trees has)));
     }
 
@@ -165,7 +165,7 @@ keeps_entries old new count has h =
     record {
       inside = ran_inside entry_table_text [] old new count h;
       schema = ap (λ (d : Database). d.schema) now ∙ has;
-      told = ap (λ (d : Database). told_by d.schema d.trees) now;
+      told = ap (λ (d : Database). told_in_trees d.schema d.trees) now;
     }
 
 pub entries_made : (old new : State) (r : Result ℕ Error)
@@ -190,7 +190,7 @@ keeps_store old new count has h =
     record {
       inside = ran_inside store_table_text [] old new count h;
       schema = ap (λ (d : Database). d.schema) now ∙ has;
-      told = ap (λ (d : Database). told_by d.schema d.trees) now;
+      told = ap (λ (d : Database). told_in_trees d.schema d.trees) now;
     }
 
 pub store_made : (old new : State) (r : Result ℕ Error)

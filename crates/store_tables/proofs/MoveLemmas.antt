@@ -12,12 +12,12 @@ use Rattle.sqlite_rules.specs.Edit.{id_in}
 use Rattle.sqlite_trees.specs.Tree.{IsTable}
 use Rattle.sqlite.specs.Effect.{Database}
 use Rattle.sqlite.specs.State.{State}
-use Rattle.lei_outside.specs.Keeping.{CellContent, CellPlace, Cells, KeptTables, content_of, put_cell, put_cells}
+use Rattle.lei_outside.specs.Keeping.{CellContent, CellPlace, CellsByPlace, KeptTables, cell_content, put_cell, put_cells}
 use Rattle.lei_outside.specs.declared.keeper.KeptCell.{KeptCell}
 use Rattle.lei_outside.proofs.CellLemmas.{tied}
-use Rattle.store_tables.specs.Calls.{AreFirst, Carried, Carries, Clears, Copies, Forms, Holds, Moves, ReadsPage, TellsFirst, Turns, last_id, with_cells}
-use Rattle.store_tables.specs.Stored.{cell_of, form_1, form_2}
-use Rattle.store_tables.specs.Told.{placed}
+use Rattle.store_tables.specs.Calls.{AreFirst, Carried, Carries, ChangesTables, Clears, Forms, HoldsTables, Moves, MovesPage, ReadsPage, TellsFirst, last_id, with_cells}
+use Rattle.store_tables.specs.Stored.{cell_in_row, form_1, form_2}
+use Rattle.store_tables.specs.Told.{place_and_content}
 use Rattle.store_tables.proofs.EntryReading.{cell_number}
 use Rattle.store_tables.proofs.NumberLemmas.{last_of, snoc}
 use Rattle.store_tables.proofs.PageLemmas.{all_front}
@@ -32,27 +32,27 @@ or_else (Some v) o = Some v
 or_else None o = o
 
 -- what is in a place after cells of rows with different places were put
-found_put : (q : CellPlace) (rows : List Row) (m : Cells) → Apart form_1 rows
-    → get (put_cells m (map cell_of rows)) q
-    ≡ or_else (find (slice_cmp nat_cmp) q (map (placed form_1) rows)) (get m q)
+found_put : (q : CellPlace) (rows : List Row) (m : CellsByPlace) → Apart form_1 rows
+    → get (put_cells m (map cell_in_row rows)) q
+    ≡ or_else (find (slice_cmp nat_cmp) q (map (place_and_content form_1) rows)) (get m q)
 found_put q [] m apart = refl
 found_put q (r ∷ rows) m apart =
-    found_put q rows (put_cell m (cell_of r)) apart.1
-    ∙ (ap (or_else (find (slice_cmp nat_cmp) q (map (placed form_1) rows)))
-    (get-insert nat_list_cmp_total m (place form_1 r) (content_of (cell_of r)) q)
+    found_put q rows (put_cell m (cell_in_row r)) apart.1
+    ∙ (ap (or_else (find (slice_cmp nat_cmp) q (map (place_and_content form_1) rows)))
+    (get-insert nat_list_cmp_total m (place form_1 r) (cell_content (cell_in_row r)) q)
     ∙ go (same_place q (place form_1 r)) refl)
   where
     go : (b : Bool) → same_place q (place form_1 r) ≡ b
-        → or_else (find (slice_cmp nat_cmp) q (map (placed form_1) rows))
-        (cond b (Some (content_of (cell_of r))) (get m q))
-        ≡ or_else (cond b (Some (content_of (cell_of r)))
-        (find (slice_cmp nat_cmp) q (map (placed form_1) rows))) (get m q)
+        → or_else (find (slice_cmp nat_cmp) q (map (place_and_content form_1) rows))
+        (cond b (Some (cell_content (cell_in_row r))) (get m q))
+        ≡ or_else (cond b (Some (cell_content (cell_in_row r)))
+        (find (slice_cmp nat_cmp) q (map (place_and_content form_1) rows))) (get m q)
     go true e =
-        let none : find (slice_cmp nat_cmp) q (map (placed form_1) rows) ≡ None =
+        let none : find (slice_cmp nat_cmp) q (map (place_and_content form_1) rows) ≡ None =
         none_found form_1 q rows (subst
         (λ p. AllByRecursion (λ s. same_place p (place form_1 s) ≡ false) rows)
         (sym (tied q (place form_1 r) e)) apart.0) in
-        ap (λ o. or_else o (Some (content_of (cell_of r)))) none
+        ap (λ o. or_else o (Some (cell_content (cell_in_row r)))) none
     go false e = refl
 
 or_none : (o : Option CellContent) → or_else o None ≡ o
@@ -61,11 +61,11 @@ or_none (Some v) = refl
 
 -- All cells of rows with different places make their map.
 all_put : (rows : List Row) → Apart form_1 rows
-    → put_cells empty (map cell_of rows) ≡ from_entries {R = slice_cmp nat_cmp} (map (placed form_1) rows)
+    → put_cells empty (map cell_in_row rows) ≡ from_entries {R = slice_cmp nat_cmp} (map (place_and_content form_1) rows)
 all_put rows apart = same_map nat_list_cmp_total same_places _ _ (λ q.
     found_put q rows empty apart
-    ∙ (ap (or_else (find (slice_cmp nat_cmp) q (map (placed form_1) rows))) (get-empty (slice_cmp nat_cmp) q)
-    ∙ or_none _ ∙ sym (get-from_entries nat_list_cmp_total (map (placed form_1) rows) q)))
+    ∙ (ap (or_else (find (slice_cmp nat_cmp) q (map (place_and_content form_1) rows))) (get-empty (slice_cmp nat_cmp) q)
+    ∙ or_none _ ∙ sym (get-from_entries nat_list_cmp_total (map (place_and_content form_1) rows) q)))
 
 -- ---- the beginning and the end
 
@@ -90,23 +90,23 @@ begins s t tells =
         told = told_as_back form_2 (s.now.trees 0) (s.now.trees 5) none
             ∙ (λ i. Some (record {
               entries = (ap (λ (x : KeptTables). x.entries) (sym it.1) i);
-              cells = from_entries (map (placed form_2) (tells.none i));
+              cells = from_entries (map (place_and_content form_2) (tells.none i));
             }));
       };
     }
 
 pub ends_moved : (before : State) (now : Database) (t : KeptTables)
     → TellsFirst before.now.schema before.now.trees t → Carried before.now.trees now t → now.trees 1 ≡ []
-    → Holds now.schema now.trees t
+    → HoldsTables now.schema now.trees t
 ends_moved before now t tells carried none =
     let it = told_as_is form_1 (before.now.trees 0) (before.now.trees 1) t tells.told in
     let all : before.now.trees 1 ≡ carried.front = carried.rows
     ∙ (ap (λ xs. carried.front ++ xs) (sym carried.left ∙ none) ∙ append-nil carried.front) in
     let apart = first_apart before.now tells.whole tells.sound it.0.cells in
-    let cells : put_cells empty (map cell_of carried.front) ≡ t.cells =
-    ap (λ rows. put_cells empty (map cell_of rows)) (sym all)
+    let cells : put_cells empty (map cell_in_row carried.front) ≡ t.cells =
+    ap (λ rows. put_cells empty (map cell_in_row rows)) (sym all)
     ∙ (all_put (before.now.trees 1) apart ∙ ap (λ (x : KeptTables). x.cells) (sym it.1)) in
-    subst (λ x. Holds now.schema now.trees (record { entries = t.entries; cells = x })) cells carried.holds
+    subst (λ x. HoldsTables now.schema now.trees (record { entries = t.entries; cells = x })) cells carried.holds
 
 -- ---- a page
 
@@ -123,17 +123,17 @@ rest_are rows front rest is first =
     }
 
 all_numbered : (rows : List Row) → AllByRecursion (IsCell form_1) rows
-    → AllByRecursion (λ (c : KeptCell). 1 ≤ c.touched) (map cell_of rows)
+    → AllByRecursion (λ (c : KeptCell). 1 ≤ c.touched) (map cell_in_row rows)
 all_numbered [] each = tt
-all_numbered (r ∷ rows) each = ((cell_number (cell_of r) each.0.1).0, all_numbered rows each.1)
+all_numbered (r ∷ rows) each = ((cell_number (cell_in_row r) each.0.1).0, all_numbered rows each.1)
 
 abbrev AreNumbered : List KeptCell → KeptTables → Type 0
 AreNumbered cells t = AllByRecursion (λ cell. 1 ≤ cell.touched) cells
 
 -- The cells of a page are put, and then its rows are removed.
 pub copies_page : (page : List Row) (last : ℤ) (cells : List KeptCell) (a b c : State)
-    → cells ≡ map cell_of page → Turns (with_cells cells) (AreNumbered cells) a b → Clears last b c
-    → Copies page last a c
+    → cells ≡ map cell_in_row page → ChangesTables (with_cells cells) (AreNumbered cells) a b → Clears last b c
+    → MovesPage page last a c
 copies_page page last cells a b c is puts clears = record {
   inside = record {
     was_open = puts.inside.was_open;
@@ -161,10 +161,10 @@ copies_page page last cells a b c is puts clears = record {
         rows = carried.rows ∙ (ap (λ xs. carried.front ++ xs) (sym split) ∙ sym (append_assoc carried.front page (drop 100 carried.rest)));
         left = left.0;
         form = left.1 ∙ (put.1.1 ∙ carried.form);
-        holds = subst (λ x. Holds c.now.schema c.now.trees (record { entries = t.entries; cells = x }))
-            (ap (put_cells (put_cells empty (map cell_of carried.front))) is
-            ∙ (sym (fold-append put_cell empty (map cell_of carried.front) (map cell_of page))
-            ∙ ap (put_cells empty) (sym (map-append cell_of carried.front page))))
+        holds = subst (λ x. HoldsTables c.now.schema c.now.trees (record { entries = t.entries; cells = x }))
+            (ap (put_cells (put_cells empty (map cell_in_row carried.front))) is
+            ∙ (sym (fold-append put_cell empty (map cell_in_row carried.front) (map cell_in_row page))
+            ∙ ap (put_cells empty) (sym (map-append cell_in_row carried.front page))))
             (clears.holds _ put.0);
       };
 }
@@ -196,7 +196,7 @@ carries_none a b page reads none = record {
 }
 
 pub carries_page : (a b c : State) (page : List Row) (last : ℤ) → ReadsPage a b page
-    → last_id page ≡ Some last → Copies page last b c → Carries a c true
+    → last_id page ≡ Some last → MovesPage page last b c → Carries a c true
 carries_page a b c page last reads is copies = record {
   inside = record {
     was_open = reads.inside.was_open;

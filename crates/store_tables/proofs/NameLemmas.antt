@@ -3,7 +3,7 @@ use Rattle.std.proofs.Common.{◌≡◌, ◌≤◌, ◌<◌, ℕ, zero, suc, Lis
 use Rattle.std.specs.Cmp.Lexicographic.{slice_cmp}
 use Rattle.std.specs.Ordering.{nat_cmp, ordering_then}
 use Rattle.std.proofs.lemmas.List.{take-append-drop}
-use Rattle.store_statements.specs.Names.{AreParts, lei_of, rest_of}
+use Rattle.store_statements.specs.Names.{AreNameParts, lei_of, rest_of}
 
 -- ---- the parts
 
@@ -17,7 +17,7 @@ whole_of zero xs low = absurd (omega (arith, low))
 whole_of (suc k) [] low = refl
 whole_of (suc k) (x ∷ xs) low = whole_of k xs (omega (arith, low))
 
-pub parts_of : (name : List ℕ) → AreParts (lei_of name) (rest_of name)
+pub parts_of : (name : List ℕ) → AreNameParts (lei_of name) (rest_of name)
 parts_of name = record { most = most_of 20 name; whole = whole_of 20 name }
 
 pub joined_again : (name : List ℕ) → lei_of name ++ rest_of name ≡ name
@@ -38,7 +38,7 @@ rest_again (suc k) [] ys most whole =
 rest_again (suc k) (x ∷ xs) ys most whole = rest_again k xs ys (omega (arith, most))
     (λ low. whole (omega (arith, low)))
 
-pub parts_again : (lei rest : List ℕ) → AreParts lei rest
+pub parts_again : (lei rest : List ℕ) → AreNameParts lei rest
     → (lei_of (lei ++ rest) ≡ lei) × (rest_of (lei ++ rest) ≡ rest)
 parts_again lei rest are = (first_again 20 lei rest are.most are.whole, rest_again 20 lei rest are.most are.whole)
 

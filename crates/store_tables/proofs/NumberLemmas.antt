@@ -17,7 +17,7 @@ use Rattle.store_tables.specs.Stored.{CellForm, entry_of, form_1, form_2}
 use Rattle.std.proofs.Common.{option_and_then}
 use Rattle.sqlite_trees.specs.Tree.{Trees}
 use Rattle.sqlite_schema.specs.declared.schema.Schema.{Schema}
-use Rattle.store_tables.specs.Told.{StoredRows, placed, rows_in, tables_of, told_as, told_by, told_of}
+use Rattle.store_tables.specs.Told.{StoredRows, place_and_content, stored_rows_in, tables_in_rows, told_as, told_in_rows, told_in_trees}
 use Rattle.store_tables.proofs.EntryReading.{cell_number, entry_number}
 use Rattle.store_tables.proofs.RowLemmas.{AreEntries, AreTold, IsCell, IsEntry, told_as_is, told_one}
 
@@ -58,28 +58,28 @@ all_above (r ∷ rows) each =
 
 found_number : (form : CellForm) (q : CellPlace) (content : CellContent) (rows : List Row)
     → AllByRecursion (IsCell form) rows
-    → find (slice_cmp nat_cmp) q (map (placed form) rows) ≡ Some content → IsEntryNumber content.touched
+    → find (slice_cmp nat_cmp) q (map (place_and_content form) rows) ≡ Some content → IsEntryNumber content.touched
 found_number form q content [] each found = absurd (cc)
-found_number form q content (r ∷ rows) each found = go (eq_by_cmp (slice_cmp nat_cmp) q (placed form r).0)
+found_number form q content (r ∷ rows) each found = go (eq_by_cmp (slice_cmp nat_cmp) q (place_and_content form r).0)
     found (found_number form q content rows each.1)
   where
     go : (b : Bool)
-        → cond b (Some (placed form r).1) (find (slice_cmp nat_cmp) q (map (placed form) rows)) ≡ Some content
-        → (find (slice_cmp nat_cmp) q (map (placed form) rows) ≡ Some content → IsEntryNumber content.touched)
+        → cond b (Some (place_and_content form r).1) (find (slice_cmp nat_cmp) q (map (place_and_content form) rows)) ≡ Some content
+        → (find (slice_cmp nat_cmp) q (map (place_and_content form) rows) ≡ Some content → IsEntryNumber content.touched)
         → IsEntryNumber content.touched
     go true is more =
-        let same : (placed form r).1 ≡ content = cc in
+        let same : (place_and_content form r).1 ≡ content = cc in
         let n = cell_number (form.read r) each.0.1 in
         subst (λ c. IsEntryNumber c.touched) same (n.0, omega (arith, n.1))
     go false is more = more is
 
 -- Told tables are kept tables.
 pub told_kept : (form : CellForm) (entries cells : List Row) → AreTold form entries cells
-    → AreKept (tables_of form entries cells)
+    → AreKept (tables_in_rows form entries cells)
 told_kept form entries cells are = record {
   entries = rise_from 0 entries (all_above entries are.entries.each) are.entries.rise are.entries.each;
   cells = λ place content is. found_number form place content cells are.cells.each
-      (sym (get-from_entries nat_list_cmp_total (map (placed form) cells) place) ∙ is);
+      (sym (get-from_entries nat_list_cmp_total (map (place_and_content form) cells) place) ∙ is);
 }
 
 -- ---- the last
@@ -126,7 +126,7 @@ front_of P (y ∷ xs) x all = let it = front_of P xs x all.1 in ((all.0, it.0), 
 
 pub last_number_of : (form : CellForm) (entries cells front : List Row) (last : Row)
     → entries ≡ front ++ last ∷ []
-    → last_number (tables_of form entries cells) ≡ (entry_of last).seq
+    → last_number (tables_in_rows form entries cells) ≡ (entry_of last).seq
 last_number_of form entries cells front last is =
     let mapped : map entry_of entries ≡ map entry_of front ++ entry_of last ∷ [] = ap (map entry_of) is
     ∙ map_snoc entry_of front last in
@@ -134,26 +134,26 @@ last_number_of form entries cells front last is =
 
 -- each number is at most the last
 pub all_at_most : (form : CellForm) (entries cells : List Row) → AreEntries entries
-    → AllByRecursion (λ r. (entry_of r).seq ≤ last_number (tables_of form entries cells)) entries
+    → AllByRecursion (λ r. (entry_of r).seq ≤ last_number (tables_in_rows form entries cells)) entries
 all_at_most form entries cells are = elim (snoc entries) [
-  | inl none ↦ subst (AllByRecursion (λ r. (entry_of r).seq ≤ last_number (tables_of form entries cells)))
+  | inl none ↦ subst (AllByRecursion (λ r. (entry_of r).seq ≤ last_number (tables_in_rows form entries cells)))
       (sym none) tt
   | inr it ↦
       let top = last_number_of form entries cells it.front it.last it.is in
       let each = front_of IsEntry it.front it.last (subst (AllByRecursion IsEntry) it.is are.each) in
       let below = before_last (λ a b. value_cmp (rowid a) (rowid b) ≡ Less) it.front it.last
       (subst IsTable it.is are.rise) in
-      let front : AllByRecursion (λ r. (entry_of r).seq ≤ last_number (tables_of form entries cells)) it.front
+      let front : AllByRecursion (λ r. (entry_of r).seq ≤ last_number (tables_in_rows form entries cells)) it.front
       = low it.front it.last each.1 top each.0 below in
-      subst (AllByRecursion (λ r. (entry_of r).seq ≤ last_number (tables_of form entries cells))) (sym it.is)
-      (all-append (λ r. (entry_of r).seq ≤ last_number (tables_of form entries cells)) it.front (it.last ∷ [])
+      subst (AllByRecursion (λ r. (entry_of r).seq ≤ last_number (tables_in_rows form entries cells))) (sym it.is)
+      (all-append (λ r. (entry_of r).seq ≤ last_number (tables_in_rows form entries cells)) it.front (it.last ∷ [])
       front (omega (arith, top), tt))
 ]
   where
     low : (xs : List Row) (last : Row) → IsEntry last
-        → last_number (tables_of form entries cells) ≡ (entry_of last).seq → AllByRecursion IsEntry xs
+        → last_number (tables_in_rows form entries cells) ≡ (entry_of last).seq → AllByRecursion IsEntry xs
         → AllByRecursion (λ r. value_cmp (rowid r) (rowid last) ≡ Less) xs
-        → AllByRecursion (λ r. (entry_of r).seq ≤ last_number (tables_of form entries cells)) xs
+        → AllByRecursion (λ r. (entry_of r).seq ≤ last_number (tables_in_rows form entries cells)) xs
     low [] last is top each below = tt
     low (r ∷ xs) last is top each below = (
       let less = numbers_rise r last each.0 is below.0 in omega (arith, less, top),
@@ -165,11 +165,11 @@ as_kept : (form : CellForm) (entries cells : List Row) (t : KeptTables) → told
 as_kept form entries cells t told =
     let it = told_as_is form entries cells t told in subst AreKept (sym it.1) (told_kept form entries cells it.0)
 
-pub told_are_kept : (schema : Schema) (trees : Trees) (t : KeptTables) → told_by schema trees ≡ Some t
+pub told_are_kept : (schema : Schema) (trees : Trees) (t : KeptTables) → told_in_trees schema trees ≡ Some t
     → AreKept t
-told_are_kept schema trees t told = go (rows_in schema trees) told
+told_are_kept schema trees t told = go (stored_rows_in schema trees) told
   where
-    go : (o : Option StoredRows) → option_and_then told_of o ≡ Some t → AreKept t
+    go : (o : Option StoredRows) → option_and_then told_in_rows o ≡ Some t → AreKept t
     go None e = absurd (cc)
     go (Some rows) e = elim (told_one rows t e) [
       | inl first ↦ as_kept form_1 rows.entries rows.cells t first

@@ -28,7 +28,7 @@ use Rattle.sqlite.specs.Rows.{Written}
 use Rattle.sqlite.specs.State.{State, Executes, ExecutesInside, Shown, mode_of}
 use Rattle.sqlite.specs.Listing.{understood}
 use Rattle.sqlite.proofs.Callers.{one_step, reads_as, runs_as, statement_of}
-use Rattle.store_statements.specs.Commands.{alone, clear_query, no_limit, page_query}
+use Rattle.store_statements.specs.Commands.{clear_query, no_limit, page_query, plain_query}
 use Rattle.store_statements.specs.Schemas.{cell_table, whole_schema}
 use Rattle.store_statements.specs.Texts.{clear_text, page_text}
 use Rattle.store_statements.proofs.Meanings.{clear_is, clear_plain, page_is, page_plain}
@@ -327,7 +327,7 @@ clears : (old new : State) (last : ℤ) (count : ℕ) → old.now.schema ≡ who
 clears old new last count has h =
     let params = Int last ∷ [] in
     let db = old.now.trees in
-    let command = Delete 1 (alone clear_query) in
+    let command = Delete 1 (plain_query clear_query) in
     let w = runs_as clear_text params old new whole_schema has command clear_is clear_plain count h in
     let text = statement_of clear_text (understood whole_schema clear_text) in
     let done = went (subst (λ s. Does old.step_limit (mode_of old) params (record old.now { schema = s }) text

@@ -20,10 +20,10 @@ use Rattle.sqlite_sql.specs.Ops.{binary}
 use Rattle.sqlite_schema.specs.Rules.{agree, clashes, differ, equal}
 use Rattle.sqlite_rules.specs.Lists.{Has}
 use Rattle.sqlite_rules.proofs.ListLemmas.{some_from}
-use Rattle.lei_outside.specs.Keeping.{CellContent, CellPlace, place_of}
+use Rattle.lei_outside.specs.Keeping.{CellContent, CellPlace, cell_place}
 use Rattle.lei_outside.specs.declared.keeper.KeptCell.{KeptCell}
-use Rattle.store_tables.specs.Stored.{CellForm, cell2_of, cell_of, form_1, form_2, stored_cell, stored_cell2}
-use Rattle.store_tables.specs.Told.{placed}
+use Rattle.store_tables.specs.Stored.{CellForm, cell2_of, cell_in_row, form_1, form_2, stored_cell, stored_cell2}
+use Rattle.store_tables.specs.Told.{place_and_content}
 use Rattle.sqlite_rules.specs.Edit.{id_in}
 use Rattle.store_statements.specs.Names.{lei_of, rest_of}
 use Rattle.store_tables.proofs.NameLemmas.{parts_order}
@@ -32,7 +32,7 @@ use Rattle.store_tables.proofs.SameLemmas.{both_of}
 use Rattle.store_tables.proofs.ValueLemmas.{told_truth}
 
 abbrev pub place : CellForm → Row → CellPlace
-place form r = place_of (form.read r)
+place form r = cell_place (form.read r)
 
 abbrev pub same_place : CellPlace → CellPlace → Bool
 same_place = eq_by_cmp (slice_cmp nat_cmp)
@@ -72,9 +72,9 @@ pub agree_is : (a b : Row) → IsCell form_1 a → IsCell form_1 b
 unfolding first_key
 agree_is a b p q =
     subst (λ x. agree plain by_place x by_place b ≡ same_place (place form_1 a) (place form_1 b)) (sym p.0)
-    (subst (λ y. agree plain by_place (stored_cell (id_in (column a 0)) (cell_of a)) by_place y
+    (subst (λ y. agree plain by_place (stored_cell (id_in (column a 0)) (cell_in_row a)) by_place y
     ≡ same_place (place form_1 a) (place form_1 b)) (sym q.0)
-    (keys_agree (cell_of a).kind (cell_of b).kind (cell_of a).name (cell_of b).name))
+    (keys_agree (cell_in_row a).kind (cell_in_row b).kind (cell_in_row a).name (cell_in_row b).name))
 
 then_parts : (o p q : Ordering)
     → (is_eq o && (is_eq p && (is_eq q && true))) ≡ is_eq (ordering_then o (ordering_then p q))
@@ -211,31 +211,31 @@ parts false b h = absurd h
 module _ (form : CellForm) where
   pub none_found : (q : CellPlace) (rows : List Row)
       → AllByRecursion (λ s. same_place q (place form s) ≡ false) rows
-      → find (slice_cmp nat_cmp) q (map (placed form) rows) ≡ None
+      → find (slice_cmp nat_cmp) q (map (place_and_content form) rows) ≡ None
   none_found q [] all = refl
   none_found q (s ∷ rows) all = ap
-      (λ b. cond b (Some (placed form s).1) (find (slice_cmp nat_cmp) q (map (placed form) rows))) all.0
+      (λ b. cond b (Some (place_and_content form s).1) (find (slice_cmp nat_cmp) q (map (place_and_content form) rows))) all.0
       ∙ none_found q rows all.1
 
   -- The entries of the map of rows with different places are what the rows put.
   pub entries_same : (rows : List Row) → Apart form rows
-      → IsPermutation (map (placed form) rows)
-      (entries (from_entries {R = slice_cmp nat_cmp} (map (placed form) rows)))
+      → IsPermutation (map (place_and_content form) rows)
+      (entries (from_entries {R = slice_cmp nat_cmp} (map (place_and_content form) rows)))
   entries_same [] apart = subst (IsPermutation []) (sym none) (IsPermutation-refl [])
     where
-      none : entries (from_entries {R = slice_cmp nat_cmp} (map (placed form) [])) ≡ []
-      none = len_none _ (sym (len-entries (from_entries {R = slice_cmp nat_cmp} (map (placed form) [])))
+      none : entries (from_entries {R = slice_cmp nat_cmp} (map (place_and_content form) [])) ≡ []
+      none = len_none _ (sym (len-entries (from_entries {R = slice_cmp nat_cmp} (map (place_and_content form) [])))
           ∙ len-empty (slice_cmp nat_cmp) CellContent)
   entries_same (r ∷ rows) apart =
-      let m = from_entries {R = slice_cmp nat_cmp} (map (placed form) rows) in
+      let m = from_entries {R = slice_cmp nat_cmp} (map (place_and_content form) rows) in
       let absent : find (slice_cmp nat_cmp) (place form r) (entries m) ≡ None =
       sym (get-entries m (place form r))
-      ∙ (get-from_entries nat_list_cmp_total (map (placed form) rows) (place form r)
+      ∙ (get-from_entries nat_list_cmp_total (map (place_and_content form) rows) (place form r)
       ∙ none_found (place form r) rows apart.0) in
-      subst (IsPermutation (placed form r ∷ map (placed form) rows))
-      (sym (entries-insert nat_list_cmp_total m (placed form r).0 (placed form r).1))
-      (IsPermutation-trans _ _ _ (IsPermutation-cons (placed form r) _ _ (entries_same rows apart.1))
-      (put_new (placed form r).0 (placed form r).1 (entries m) absent))
+      subst (IsPermutation (place_and_content form r ∷ map (place_and_content form) rows))
+      (sym (entries-insert nat_list_cmp_total m (place_and_content form r).0 (place_and_content form r).1))
+      (IsPermutation-trans _ _ _ (IsPermutation-cons (place_and_content form r) _ _ (entries_same rows apart.1))
+      (put_new (place_and_content form r).0 (place_and_content form r).1 (entries m) absent))
 
   -- ---- the rows in the order of places
 
@@ -243,12 +243,12 @@ module _ (form : CellForm) where
   before a b = slice_cmp nat_cmp (place form a) (place form b) ≡ Less
 
   below_each : (a : Row) (rows : List Row)
-      → T (below_all (slice_cmp nat_cmp) (place form a) (map (placed form) rows))
+      → T (below_all (slice_cmp nat_cmp) (place form a) (map (place_and_content form) rows))
       → AllByRecursion (before a) rows
   below_each a [] h = tt
   below_each a (s ∷ rows) h = let it = parts _ _ h in (less _ it.0, below_each a rows it.1)
 
-  sorted_rows : (rows : List Row) → T (is_sorted (slice_cmp nat_cmp) (map (placed form) rows))
+  sorted_rows : (rows : List Row) → T (is_sorted (slice_cmp nat_cmp) (map (place_and_content form) rows))
       → IsAscending before rows
   sorted_rows [] h = tt
   sorted_rows (r ∷ rows) h = let it = parts _ _ h in (below_each r rows it.0, sorted_rows rows it.1)
@@ -259,12 +259,12 @@ module _ (form : CellForm) where
     pub same : IsPermutation rows all
     pub up : IsAscending before all
     pub each : AllByRecursion (IsCell form) all
-    pub are : entries (from_entries {R = slice_cmp nat_cmp} (map (placed form) rows)) ≡ map (placed form) all
+    pub are : entries (from_entries {R = slice_cmp nat_cmp} (map (place_and_content form) rows)) ≡ map (place_and_content form) all
 
   pub in_order : (rows : List Row) → Apart form rows → AllByRecursion (IsCell form) rows → Ordered rows
   in_order rows apart each =
-      let m = from_entries {R = slice_cmp nat_cmp} (map (placed form) rows) in
-      let it = pull_back (placed form) (map (placed form) rows) (entries m) (entries_same rows apart) rows refl
+      let m = from_entries {R = slice_cmp nat_cmp} (map (place_and_content form) rows) in
+      let it = pull_back (place_and_content form) (map (place_and_content form) rows) (entries m) (entries_same rows apart) rows refl
       in
       record {
         all = it.0;

@@ -10,7 +10,7 @@ use Rattle.store_statements.specs.Schemas.{both_schema, entry_schema, no_schema,
 use Rattle.store_tables.specs.Calls.{AreFirst}
 use Rattle.store_tables.specs.Same.{same_schema}
 use Rattle.store_tables.specs.Stored.{CellForm, cell_fits, entry_fits, entry_of, form_1, form_2, is_cell, is_entry, stored_entry}
-use Rattle.store_tables.specs.Told.{StoredRows, are_told, is_first, is_none, is_second, rise, rows_in, says_second, tables_of, told_as, told_by, told_of}
+use Rattle.store_tables.specs.Told.{StoredRows, are_told, is_first, is_none, is_second, rise, says_second, stored_rows_in, tables_in_rows, told_as, told_in_rows, told_in_trees}
 use Rattle.store_tables.proofs.SameLemmas.{both_of, left_of, right_of, row_is, row_itself, schema_is, schema_itself}
 
 -- ---- rows of entries and cells
@@ -115,13 +115,13 @@ test_or_none false x t h = absurd (cc)
 
 pub told_as_is : (form : CellForm) (entries cells : List Row) (t : KeptTables)
     → told_as form entries cells ≡ Some t
-    → AreTold form entries cells × (t ≡ tables_of form entries cells)
+    → AreTold form entries cells × (t ≡ tables_in_rows form entries cells)
 told_as_is form entries cells t h =
     let it = test_or_none (are_told form entries cells) _ t h in (told_are form entries cells it.0, it.1)
 
 pub told_as_back : (form : CellForm) (entries cells : List Row) → AreTold form entries cells
-    → told_as form entries cells ≡ Some (tables_of form entries cells)
-told_as_back form entries cells h = ap (λ b. cond b (Some (tables_of form entries cells)) None)
+    → told_as form entries cells ≡ Some (tables_in_rows form entries cells)
+told_as_back form entries cells h = ap (λ b. cond b (Some (tables_in_rows form entries cells)) None)
     (are_told_by form entries cells h)
 
 -- ---- by the form of the store
@@ -147,10 +147,10 @@ module _ (rows : StoredRows) where
   not_first says = not_both _ (is_none rows.cells2) (second_some rows.forms says)
 
   pub told_second : says_second rows.forms ≡ true → rows.cells ≡ []
-      → told_of rows ≡ told_as form_2 rows.entries rows.cells2
+      → told_in_rows rows ≡ told_as form_2 rows.entries rows.cells2
   told_second says none = rw (not_first says, both_of _ _ says (none_back rows.cells none)) refl
 
-  pub second_told : (t : KeptTables) → says_second rows.forms ≡ true → told_of rows ≡ Some t
+  pub second_told : (t : KeptTables) → says_second rows.forms ≡ true → told_in_rows rows ≡ Some t
       → (rows.cells ≡ []) × (told_as form_2 rows.entries rows.cells2 ≡ Some t)
   second_told t says told = go (is_none rows.cells) refl
       (rw (not_first says, says) at told)
@@ -161,10 +161,10 @@ module _ (rows : StoredRows) where
       go true e h = (none_is rows.cells e, h)
       go false e h = absurd (cc)
 
-  pub told_first : rows.forms ≡ [] → rows.cells2 ≡ [] → told_of rows ≡ told_as form_1 rows.entries rows.cells
+  pub told_first : rows.forms ≡ [] → rows.cells2 ≡ [] → told_in_rows rows ≡ told_as form_1 rows.entries rows.cells
   told_first forms none = rw (both_of _ _ (none_back rows.forms forms) (none_back rows.cells2 none)) refl
 
-  pub first_told : (t : KeptTables) → rows.forms ≡ [] → told_of rows ≡ Some t
+  pub first_told : (t : KeptTables) → rows.forms ≡ [] → told_in_rows rows ≡ Some t
       → (rows.cells2 ≡ []) × (told_as form_1 rows.entries rows.cells ≡ Some t)
   first_told t forms told = go (is_none rows.cells2) refl
       (rw (ap is_none forms, ap says_second forms) at told)
@@ -225,19 +225,19 @@ is_not schema s other m n is p q differ = not_same schema other
     (λ same. other_count m n s other p q differ (sym is ∙ same))
 
 pub rows_in_whole : (schema : Schema) (trees : Trees) → schema ≡ whole_schema
-    → rows_in schema trees
+    → stored_rows_in schema trees
     ≡ Some (record { entries = trees 0; cells = trees 1; forms = trees 4; cells2 = trees 5 })
 rows_in_whole schema trees is = first (same_schema schema whole_schema) _ _ (schema_itself _ _ is)
 
 pub rows_in_store : (schema : Schema) (trees : Trees) → schema ≡ store_schema
-    → rows_in schema trees ≡ Some (record { entries = trees 0; cells = trees 1; forms = trees 4; cells2 = [] })
+    → stored_rows_in schema trees ≡ Some (record { entries = trees 0; cells = trees 1; forms = trees 4; cells2 = [] })
 rows_in_store schema trees is =
     other (same_schema schema whole_schema) _ _
     (is_not schema store_schema whole_schema 3 4 is store_count whole_count (λ e. omega (arith, e)))
     ∙ first (same_schema schema store_schema) _ _ (schema_itself _ _ is)
 
 pub rows_in_both : (schema : Schema) (trees : Trees) → schema ≡ both_schema
-    → rows_in schema trees ≡ Some (record { entries = trees 0; cells = trees 1; forms = []; cells2 = [] })
+    → stored_rows_in schema trees ≡ Some (record { entries = trees 0; cells = trees 1; forms = []; cells2 = [] })
 rows_in_both schema trees is =
     other (same_schema schema whole_schema) _ _
     (is_not schema both_schema whole_schema 2 4 is both_count whole_count (λ e. omega (arith, e)))
@@ -246,7 +246,7 @@ rows_in_both schema trees is =
     ∙ first (same_schema schema both_schema) _ _ (schema_itself _ _ is))
 
 pub rows_in_entry : (schema : Schema) (trees : Trees) → schema ≡ entry_schema
-    → rows_in schema trees ≡ Some (record { entries = trees 0; cells = []; forms = []; cells2 = [] })
+    → stored_rows_in schema trees ≡ Some (record { entries = trees 0; cells = []; forms = []; cells2 = [] })
 rows_in_entry schema trees is =
     other (same_schema schema whole_schema) _ _
     (is_not schema entry_schema whole_schema 1 4 is entry_count whole_count (λ e. omega (arith, e)))
@@ -257,7 +257,7 @@ rows_in_entry schema trees is =
     ∙ first (same_schema schema entry_schema) _ _ (schema_itself _ _ is)))
 
 pub rows_in_none : (schema : Schema) (trees : Trees) → schema ≡ no_schema
-    → rows_in schema trees ≡ Some (record { entries = []; cells = []; forms = []; cells2 = [] })
+    → stored_rows_in schema trees ≡ Some (record { entries = []; cells = []; forms = []; cells2 = [] })
 rows_in_none schema trees is =
     other (same_schema schema whole_schema) _ _
     (is_not schema no_schema whole_schema 0 4 is none_count whole_count (λ e. omega (arith, e)))
@@ -275,11 +275,11 @@ abbrev pub whole_rows : Trees → StoredRows
 whole_rows trees = record { entries = trees 0; cells = trees 1; forms = trees 4; cells2 = trees 5 }
 
 pub told_whole : (schema : Schema) (trees : Trees) → schema ≡ whole_schema
-    → told_by schema trees ≡ told_of (whole_rows trees)
-told_whole schema trees is = ap (option_and_then told_of) (rows_in_whole schema trees is)
+    → told_in_trees schema trees ≡ told_in_rows (whole_rows trees)
+told_whole schema trees is = ap (option_and_then told_in_rows) (rows_in_whole schema trees is)
 
 -- what is told is told by one of the two forms
-pub told_one : (rows : StoredRows) (t : KeptTables) → told_of rows ≡ Some t
+pub told_one : (rows : StoredRows) (t : KeptTables) → told_in_rows rows ≡ Some t
     → (told_as form_1 rows.entries rows.cells ≡ Some t) ⊎ (told_as form_2 rows.entries rows.cells2 ≡ Some t)
 told_one rows t told = go (is_first rows) (is_second rows) told
   where

@@ -9,7 +9,7 @@ use Rattle.sqlite.specs.Listing.{understood}
 use Rattle.sqlite.specs.State.{State, CommitsShowing, FailsToQuery, FailsToShow, HasCleanDisk, IsNotRun, IsRolledBack, IsUnchanged, Shown, ShowsRows, Survives}
 use Rattle.sqlite.proofs.Callers.{IsPlain, never_commits}
 use Rattle.store_tables.specs.Calls.{IsSteady}
-use Rattle.store_tables.specs.Told.{told_by}
+use Rattle.store_tables.specs.Told.{told_in_trees}
 
 abbrev pub Rests : State → State → Type 0
 Rests old new = IsUnchanged old new ⊎ IsRolledBack old new
@@ -64,7 +64,7 @@ rests_steady old new P settled mode rests survives none = record {
   clean = survives.clean;
   mode = mode;
   was_open = λ clean live. rests_open old new (rests clean) live;
-  told = λ clean live t was. ap (λ (d : Database). told_by d.schema d.trees)
+  told = λ clean live t was. ap (λ (d : Database). told_in_trees d.schema d.trees)
       (rests_now old new (settled clean) (rests clean) live) ∙ was;
   crash = λ clean left found. inl (elim (survives.crash clean found.0 found.2) [
     | inl was ↦ (found.0, found.1, was, found.3, found.4)

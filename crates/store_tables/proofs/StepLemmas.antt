@@ -16,14 +16,14 @@ use Rattle.sqlite_schema.specs.Rules.{Keeps}
 use Rattle.sqlite_rules.specs.Edit.{is_taken}
 use Rattle.sqlite_rules.proofs.ListLemmas.{all_has}
 use Rattle.sqlite.specs.Effect.{Database, IsDatabase}
-use Rattle.lei_outside.specs.Keeping.{CellContent, CellPlace, KeptTables, content_of, last_number, place_of, put_cell}
+use Rattle.lei_outside.specs.Keeping.{CellContent, CellPlace, KeptTables, cell_content, cell_place, last_number, put_cell}
 use Rattle.lei_outside.specs.declared.entry.KeptEntry.{KeptEntry}
 use Rattle.lei_outside.specs.declared.keeper.KeptCell.{KeptCell}
 use Rattle.lei_outside.proofs.CellLemmas.{itself, tied}
 use Rattle.store_statements.specs.Schemas.{whole_schema}
-use Rattle.store_tables.specs.Calls.{Holds, with_cell, with_entry}
+use Rattle.store_tables.specs.Calls.{HoldsTables, tables_with_cell, tables_with_entry}
 use Rattle.store_tables.specs.Stored.{cell_fits, entry_fits, entry_of, form_1, form_2, stored_cell2, stored_entry}
-use Rattle.store_tables.specs.Told.{placed, tables_of}
+use Rattle.store_tables.specs.Told.{place_and_content, tables_in_rows}
 use Rattle.store_tables.proofs.CellWriting.{Puts, Stay, cell_again, cell_is_cell}
 use Rattle.store_tables.proofs.EntryWriting.{Inserts}
 use Rattle.store_tables.proofs.NumberLemmas.{all_at_most, id_is, map_snoc}
@@ -37,16 +37,16 @@ pub record HasRows (db : Database) (t : KeptTables) : Type 0 where
   pub whole : db.schema ≡ whole_schema
   pub sound : IsDatabase db
   pub told : AreTold form_2 (db.trees 0) (db.trees 5)
-  pub is : t ≡ tables_of form_2 (db.trees 0) (db.trees 5)
+  pub is : t ≡ tables_in_rows form_2 (db.trees 0) (db.trees 5)
 
-pub rows_hold : (db : Database) (t : KeptTables) → HasRows db t → Holds db.schema db.trees t
+pub rows_hold : (db : Database) (t : KeptTables) → HasRows db t → HoldsTables db.schema db.trees t
 rows_hold db t h = record {
   whole = h.whole;
   sound = h.sound;
   told = told_as_back form_2 (db.trees 0) (db.trees 5) h.told ∙ ap Some (sym h.is);
 }
 
-pub hold_rows : (db : Database) (t : KeptTables) → Holds db.schema db.trees t → HasRows db t
+pub hold_rows : (db : Database) (t : KeptTables) → HoldsTables db.schema db.trees t → HasRows db t
 hold_rows db t h =
     let it = told_as_is form_2 (db.trees 0) (db.trees 5) t h.told in
     record { whole = h.whole; sound = h.sound; told = it.0; is = it.1 }
@@ -95,9 +95,9 @@ all_below e last (r ∷ rows) low each most = (
 )
 
 pub rows_insert : (old new : Database) (t : KeptTables) (e : KeptEntry) → HasRows old t → Inserts old new e
-    → entry_fits e ≡ true → e.seq ≡ last_number t + 1 → HasRows new (with_entry e t)
+    → entry_fits e ≡ true → e.seq ≡ last_number t + 1 → HasRows new (tables_with_entry e t)
 rows_insert old new t e h made fits next =
-    let low : last_number (tables_of form_2 (old.trees 0) (old.trees 5)) < e.seq = omega
+    let low : last_number (tables_in_rows form_2 (old.trees 0) (old.trees 5)) < e.seq = omega
     (arith, next, ap last_number h.is) in
     let below = all_below e _ (old.trees 0) low h.told.entries.each
     (all_at_most form_2 (old.trees 0) (old.trees 5) h.told.entries) in
@@ -113,12 +113,12 @@ rows_insert old new t e h made fits next =
         });
         cells = subst (AreCells form_2) (sym made.cells) h.told.cells;
       };
-      is = ap (with_entry e) h.is
+      is = ap (tables_with_entry e) h.is
           ∙ (λ i. record {
             entries =
                 (sym (ap (map entry_of) ended ∙ map_snoc entry_of (old.trees 0) (stored_entry e)) i);
             cells =
-                from_entries (map (placed form_2) (sym made.cells i));
+                from_entries (map (place_and_content form_2) (sym made.cells i));
           });
     }
 
@@ -146,22 +146,22 @@ never_both q a b apart p r = true≢false
 -- what is in a place after a row was put
 find_put : (q : CellPlace) (new : Row) (rows : List Row)
     → AllByRecursion (λ s. same_place (place form_2 new) (place form_2 s) ≡ false) rows → is_taken rows new ≡ false
-    → find (slice_cmp nat_cmp) q (map (placed form_2) (put_row new rows))
-    ≡ cond (same_place q (place form_2 new)) (Some (placed form_2 new).1) (find (slice_cmp nat_cmp) q (map (placed form_2) rows))
+    → find (slice_cmp nat_cmp) q (map (place_and_content form_2) (put_row new rows))
+    ≡ cond (same_place q (place form_2 new)) (Some (place_and_content form_2 new).1) (find (slice_cmp nat_cmp) q (map (place_and_content form_2) rows))
 find_put q new [] apart free = refl
 find_put q new (r ∷ rows) apart free = go (value_cmp (rowid r) (rowid new)) refl (find_put q new rows apart.1)
   where
     go : (o : Ordering) → value_cmp (rowid r) (rowid new) ≡ o
         → (is_taken rows new ≡ false
-        → find (slice_cmp nat_cmp) q (map (placed form_2) (put_row new rows))
-        ≡ cond (same_place q (place form_2 new)) (Some (placed form_2 new).1)
-        (find (slice_cmp nat_cmp) q (map (placed form_2) rows)))
+        → find (slice_cmp nat_cmp) q (map (place_and_content form_2) (put_row new rows))
+        ≡ cond (same_place q (place form_2 new)) (Some (place_and_content form_2 new).1)
+        (find (slice_cmp nat_cmp) q (map (place_and_content form_2) rows)))
         → find (slice_cmp nat_cmp) q
-        (map (placed form_2) (match_ordering o (r ∷ put_row new rows) (new ∷ rows) (new ∷ r ∷ rows)))
-        ≡ cond (same_place q (place form_2 new)) (Some (placed form_2 new).1)
-        (cond (same_place q (place form_2 r)) (Some (placed form_2 r).1) (find (slice_cmp nat_cmp) q (map (placed form_2) rows)))
+        (map (place_and_content form_2) (match_ordering o (r ∷ put_row new rows) (new ∷ rows) (new ∷ r ∷ rows)))
+        ≡ cond (same_place q (place form_2 new)) (Some (place_and_content form_2 new).1)
+        (cond (same_place q (place form_2 r)) (Some (place_and_content form_2 r).1) (find (slice_cmp nat_cmp) q (map (place_and_content form_2) rows)))
     go Less e more =
-        ap (cond (same_place q (place form_2 r)) (Some (placed form_2 r).1)) (more (or_right _ _ free))
+        ap (cond (same_place q (place form_2 r)) (Some (place_and_content form_2 r).1)) (more (or_right _ _ free))
         ∙ swap (same_place q (place form_2 r)) (same_place q (place form_2 new)) _ _ _
         (never_both q (place form_2 new) (place form_2 r) apart.0)
     go Equal e more = absurd (true≢false (sym (ap is_eq e) ∙ or_left _ _ free))
@@ -178,34 +178,34 @@ one_way false x y z same = same refl
 -- The map after the cell was put.
 cells_put : (old rest new : List Row) (id : ℤ) (c : KeptCell) → Stay old rest c
     → new ≡ put_row (stored_cell2 id c) rest → is_taken rest (stored_cell2 id c) ≡ false
-    → put_cell (from_entries {R = slice_cmp nat_cmp} (map (placed form_2) old)) c
-    ≡ from_entries {R = slice_cmp nat_cmp} (map (placed form_2) new)
+    → put_cell (from_entries {R = slice_cmp nat_cmp} (map (place_and_content form_2) old)) c
+    ≡ from_entries {R = slice_cmp nat_cmp} (map (place_and_content form_2) new)
 cells_put old rest new id c stay is free = same_map nat_list_cmp_total same_places _ _ (λ q.
     let row = stored_cell2 id c in
     let again = cell_again id c in
-    let apart = subst (λ x. AllByRecursion (λ s. same_place (place_of x) (place form_2 s) ≡ false) rest) (sym again)
+    let apart = subst (λ x. AllByRecursion (λ s. same_place (cell_place x) (place form_2 s) ≡ false) rest) (sym again)
     stay.apart in
-    let found : find (slice_cmp nat_cmp) q (map (placed form_2) new)
-    ≡ cond (same_place q (place_of c)) (Some (content_of c))
-    (find (slice_cmp nat_cmp) q (map (placed form_2) rest)) =
-    ap (λ xs. find (slice_cmp nat_cmp) q (map (placed form_2) xs)) is
+    let found : find (slice_cmp nat_cmp) q (map (place_and_content form_2) new)
+    ≡ cond (same_place q (cell_place c)) (Some (cell_content c))
+    (find (slice_cmp nat_cmp) q (map (place_and_content form_2) rest)) =
+    ap (λ xs. find (slice_cmp nat_cmp) q (map (place_and_content form_2) xs)) is
     ∙ (find_put q row rest apart free
-    ∙ ap (λ x. cond (same_place q (place_of x)) (Some (content_of x))
-    (find (slice_cmp nat_cmp) q (map (placed form_2) rest))) again) in
-    let were : cond (same_place q (place_of c)) (Some (content_of c))
-    (find (slice_cmp nat_cmp) q (map (placed form_2) rest))
-    ≡ cond (same_place q (place_of c)) (Some (content_of c)) (find (slice_cmp nat_cmp) q (map (placed form_2) old)) =
+    ∙ ap (λ x. cond (same_place q (cell_place x)) (Some (cell_content x))
+    (find (slice_cmp nat_cmp) q (map (place_and_content form_2) rest))) again) in
+    let were : cond (same_place q (cell_place c)) (Some (cell_content c))
+    (find (slice_cmp nat_cmp) q (map (place_and_content form_2) rest))
+    ≡ cond (same_place q (cell_place c)) (Some (cell_content c)) (find (slice_cmp nat_cmp) q (map (place_and_content form_2) old)) =
     one_way _ _ _ _ (stay.found q) in
-    let given : get (put_cell (from_entries {R = slice_cmp nat_cmp} (map (placed form_2) old)) c) q
-    ≡ cond (same_place q (place_of c)) (Some (content_of c)) (find (slice_cmp nat_cmp) q (map (placed form_2) old))
+    let given : get (put_cell (from_entries {R = slice_cmp nat_cmp} (map (place_and_content form_2) old)) c) q
+    ≡ cond (same_place q (cell_place c)) (Some (cell_content c)) (find (slice_cmp nat_cmp) q (map (place_and_content form_2) old))
     =
-    get-insert nat_list_cmp_total (from_entries (map (placed form_2) old)) (place_of c) (content_of c) q
-    ∙ ap (cond (same_place q (place_of c)) (Some (content_of c)))
-    (get-from_entries nat_list_cmp_total (map (placed form_2) old) q) in
-    given ∙ sym (get-from_entries nat_list_cmp_total (map (placed form_2) new) q ∙ (found ∙ were)))
+    get-insert nat_list_cmp_total (from_entries (map (place_and_content form_2) old)) (cell_place c) (cell_content c) q
+    ∙ ap (cond (same_place q (cell_place c)) (Some (cell_content c)))
+    (get-from_entries nat_list_cmp_total (map (place_and_content form_2) old) q) in
+    given ∙ sym (get-from_entries nat_list_cmp_total (map (place_and_content form_2) new) q ∙ (found ∙ were)))
 
 pub rows_put : (old new : Database) (t : KeptTables) (c : KeptCell) → HasRows old t → Puts old new c
-    → cell_fits c ≡ true → HasRows new (with_cell c t)
+    → cell_fits c ≡ true → HasRows new (tables_with_cell c t)
 rows_put old new t c h made fits = record {
   whole = made.schema;
   sound = made.sound;
@@ -217,7 +217,7 @@ rows_put old new t c h made fits = record {
           made.stay.are.each;
     });
   };
-  is = ap (with_cell c) h.is ∙ (λ i. record {
+  is = ap (tables_with_cell c) h.is ∙ (λ i. record {
     entries = map entry_of (sym made.entries i);
     cells = cells_put (old.trees 5) made.rest (new.trees 5) made.id c made.stay made.cells made.fresh i;
   });

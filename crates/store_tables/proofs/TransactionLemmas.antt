@@ -7,8 +7,8 @@ use Rattle.sqlite.specs.Steps.{FailsToCommit}
 use Rattle.sqlite.specs.State.{State, HasCleanDisk, IsRolledBack, KeepsCommit, Survives}
 use Rattle.lei_outside.specs.Keeping.{KeptTables}
 use Rattle.store_tables.specs.Calls.{IsInside, IsMade, IsSeen, IsSteady, IsUndone}
-use Rattle.store_tables.specs.Crash.{IsFound}
-use Rattle.store_tables.specs.Told.{told_by}
+use Rattle.store_tables.specs.Crash.{MayBeFound}
+use Rattle.store_tables.specs.Told.{told_in_trees}
 use Rattle.store_tables.proofs.CrashLemmas.{one_schema}
 
 pub undone_by : (old mid new : State) → KeepsCommit old mid → IsRolledBack mid new → IsUndone old new
@@ -32,19 +32,19 @@ undone_now old new settled undone live = undone.now live ∙ sym (settled (undon
 
 undone_told : (old new : State) → (IsTrue old.is_open → old.now ≡ old.committed) → IsUndone old new
     → IsTrue new.is_open
-    → told_by new.now.schema new.now.trees ≡ told_by old.now.schema old.now.trees
-undone_told old new settled undone live = ap (λ (d : Database). told_by d.schema d.trees)
+    → told_in_trees new.now.schema new.now.trees ≡ told_in_trees old.now.schema old.now.trees
+undone_told old new settled undone live = ap (λ (d : Database). told_in_trees d.schema d.trees)
     (undone_now old new settled undone live)
 
 made_seen : (old new : State) (left : Option KeptTables)
-    → ((db : Trees) → new.may_leave db → old.may_leave db ⊎ IsMade old db) → IsFound new left
-    → IsFound old left ⊎ IsSeen old left
+    → ((db : Trees) → new.may_leave db → old.may_leave db ⊎ IsMade old db) → MayBeFound new left
+    → MayBeFound old left ⊎ IsSeen old left
 made_seen old new left crash found = elim (crash found.0 found.2) [
   | inl was ↦ inl (found.0, found.1, was, found.3, found.4)
   | inr made ↦ inr (
     made.0,
     λ t told. let it = made.1 t told in
-        found.4 ∙ (ap (λ s. told_by s found.0) (one_schema found.1 it.0 found.0 found.3 it.1) ∙ it.2),
+        found.4 ∙ (ap (λ s. told_in_trees s found.0) (one_schema found.1 it.0 found.0 found.3 it.1) ∙ it.2),
   )
 ]
 
@@ -52,8 +52,8 @@ made_seen old new left crash found = elim (crash found.0 found.2) [
 pub made_steady : (old new : State) → (HasCleanDisk new → IsTrue old.is_open → old.now ≡ old.committed)
     → (old.in_transaction ≡ false → new.in_transaction ≡ false)
     → (HasCleanDisk new → IsUndone old new
-    ⊎ (IsTrue old.is_open × ((t : KeptTables) → told_by old.now.schema old.now.trees ≡ Some t
-    → told_by new.now.schema new.now.trees ≡ Some t))) → Survives old new (IsMade old) → IsSteady old new
+    ⊎ (IsTrue old.is_open × ((t : KeptTables) → told_in_trees old.now.schema old.now.trees ≡ Some t
+    → told_in_trees new.now.schema new.now.trees ≡ Some t))) → Survives old new (IsMade old) → IsSteady old new
 made_steady old new settled mode went survives = record {
   clean = survives.clean;
   mode = mode;

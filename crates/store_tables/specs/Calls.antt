@@ -16,19 +16,19 @@ use Rattle.lei_outside.specs.declared.entry.KeptEntry.{KeptEntry}
 use Rattle.lei_outside.specs.declared.keeper.Batch.{Batch}
 use Rattle.lei_outside.specs.declared.keeper.KeptCell.{KeptCell}
 use Rattle.store_statements.specs.Schemas.{both_schema, entry_schema, no_schema, store_schema, whole_schema}
-use Rattle.store_tables.specs.Crash.{IsFound}
-use Rattle.store_tables.specs.Stored.{cell_of, form_1, form_2, is_cell, second_row}
-use Rattle.store_tables.specs.Told.{rise, says_second, told_as, told_by}
+use Rattle.store_tables.specs.Crash.{MayBeFound}
+use Rattle.store_tables.specs.Stored.{cell_in_row, form_1, form_2, is_cell, second_row}
+use Rattle.store_tables.specs.Told.{rise, says_second, told_as, told_in_trees}
 
 -- The entries and the cells of form 2 of a sound store with all four tables are these, whatever its form is.
-pub record Holds (schema : Schema) (trees : Trees) (t : KeptTables) : Type 0 where
+pub record HoldsTables (schema : Schema) (trees : Trees) (t : KeptTables) : Type 0 where
   pub whole : schema ≡ whole_schema
   pub sound : IsSound schema trees
   pub told : told_as form_2 (trees 0) (trees 5) ≡ Some t
 
 -- A sound store of form 2, which tells these.
-pub record Tells (schema : Schema) (trees : Trees) (t : KeptTables) : Type 0 where
-  pub holds : Holds schema trees t
+pub record TellsTables (schema : Schema) (trees : Trees) (t : KeptTables) : Type 0 where
+  pub holds : HoldsTables schema trees t
   pub second : says_second (trees 4) ≡ true
   pub emptied : trees 1 ≡ []
 
@@ -41,20 +41,20 @@ pub record TellsFirst (schema : Schema) (trees : Trees) (t : KeptTables) : Type 
   pub none : trees 5 ≡ []
 
 -- An open connection between transactions has all four tables, and all of it is committed.
-pub record IsWhole (s : State) : Type 0 where
+pub record IsWholeStore (s : State) : Type 0 where
   pub schema : s.now.schema ≡ whole_schema
   pub settled : IsTrue s.is_open → s.now ≡ s.committed
   pub sound : IsTrue s.is_open → IsDatabase s.now
 
 -- And its form is form 2.
-pub record IsReady (s : State) : Type 0 where
-  pub whole : IsWhole s
+pub record IsReadyStore (s : State) : Type 0 where
+  pub whole : IsWholeStore s
   pub second : says_second (s.now.trees 4) ≡ true
 
 -- What an open connection would tell of the trees that it sees, if they tell anything.
 abbrev pub IsSeen : State → Option KeptTables → Type 0
 IsSeen s left = IsTrue s.is_open
-    × ((t : KeptTables) → told_by s.now.schema s.now.trees ≡ Some t → left ≡ Some t)
+    × ((t : KeptTables) → told_in_trees s.now.schema s.now.trees ≡ Some t → left ≡ Some t)
 
 -- Between transactions a call doesn't change what is told, if anything is, and adds nothing to what a crash may leave.
 pub record IsSteady (old new : State) : Type 0 where
@@ -62,10 +62,10 @@ pub record IsSteady (old new : State) : Type 0 where
   pub mode : old.in_transaction ≡ false → new.in_transaction ≡ false
   pub was_open : HasCleanDisk new → IsTrue new.is_open → IsTrue old.is_open
   pub told : HasCleanDisk new → IsTrue new.is_open → (t : KeptTables)
-      → told_by old.now.schema old.now.trees ≡ Some t
-      → told_by new.now.schema new.now.trees ≡ Some t
-  pub crash : HasCleanDisk new → (left : Option KeptTables) → IsFound new left
-      → IsFound old left ⊎ IsSeen old left
+      → told_in_trees old.now.schema old.now.trees ≡ Some t
+      → told_in_trees new.now.schema new.now.trees ≡ Some t
+  pub crash : HasCleanDisk new → (left : Option KeptTables) → MayBeFound new left
+      → MayBeFound old left ⊎ IsSeen old left
 
 -- Inside a transaction nothing is committed.
 pub record IsInside (old new : State) : Type 0 where
@@ -80,33 +80,33 @@ KeepsForm old new = (new 1 ≡ old 1) × (new 4 ≡ old 4)
 
 -- Inside a transaction the entries and the cells of form 2 become what this function makes of them, if a condition
 -- holds for them.
-pub record Turns (change : KeptTables → KeptTables) (Fits : KeptTables → Type 0) (old new : State) : Type 0
+pub record ChangesTables (change : KeptTables → KeptTables) (Fits : KeptTables → Type 0) (old new : State) : Type 0
   where
     pub inside : IsInside old new
-    pub holds : (t : KeptTables) → Fits t → Holds old.now.schema old.now.trees t
-        → Holds new.now.schema new.now.trees (change t) × KeepsForm old.now.trees new.now.trees
+    pub holds : (t : KeptTables) → Fits t → HoldsTables old.now.schema old.now.trees t
+        → HoldsTables new.now.schema new.now.trees (change t) × KeepsForm old.now.trees new.now.trees
 
 -- The tables with an entry added after the others.
-abbrev pub with_entry : KeptEntry → KeptTables → KeptTables
-with_entry e t = record { entries = t.entries ++ e ∷ []; cells = t.cells }
+abbrev pub tables_with_entry : KeptEntry → KeptTables → KeptTables
+tables_with_entry e t = record { entries = t.entries ++ e ∷ []; cells = t.cells }
 
 -- The tables with a cell in its place.
-abbrev pub with_cell : KeptCell → KeptTables → KeptTables
-with_cell c t = record { entries = t.entries; cells = put_cell t.cells c }
+abbrev pub tables_with_cell : KeptCell → KeptTables → KeptTables
+tables_with_cell c t = record { entries = t.entries; cells = put_cell t.cells c }
 
 -- The tables with these cells in their places.
 abbrev pub with_cells : List KeptCell → KeptTables → KeptTables
 with_cells list t = record { entries = t.entries; cells = put_cells t.cells list }
 
 -- An entry has the number that follows the last.
-abbrev pub IsNext : KeptEntry → KeptTables → Type 0
-IsNext e t = e.seq ≡ last_number t + 1
+abbrev pub HasNextNumber : KeptEntry → KeptTables → Type 0
+HasNextNumber e t = e.seq ≡ last_number t + 1
 
 -- What the transaction of a batch commits.
-abbrev pub IsKept : Batch → State → Trees → Type 0
-IsKept batch s trees =
-    IsTrue s.is_open × ((t : KeptTables) → IsNext batch.entry t → Tells s.now.schema s.now.trees t
-    → (schema : Schema) × Tells schema trees (with_batch batch t))
+abbrev pub KeepsBatch : Batch → State → Trees → Type 0
+KeepsBatch batch s trees =
+    IsTrue s.is_open × ((t : KeptTables) → HasNextNumber batch.entry t → TellsTables s.now.schema s.now.trees t
+    → (schema : Schema) × TellsTables schema trees (with_batch batch t))
 
 -- The row with an entry's number, or no row if there is no entry.
 abbrev pub number_row : Option KeptEntry → List Row
@@ -120,8 +120,8 @@ last_rows t = number_row (slice_get t.entries (length t.entries - 1))
 -- ---- the making of the tables
 
 -- Not all tables are made yet.
-abbrev pub IsBegun : Schema → Type 0
-IsBegun schema = (schema ≡ no_schema) ⊎ (schema ≡ entry_schema)
+abbrev pub IsNewSchema : Schema → Type 0
+IsNewSchema schema = (schema ≡ no_schema) ⊎ (schema ≡ entry_schema)
 
 -- The tables of form 1 are made, and perhaps the table of the form.
 abbrev pub IsFirst : Schema → Type 0
@@ -131,13 +131,13 @@ IsFirst schema = (schema ≡ both_schema) ⊎ (schema ≡ store_schema)
 pub record Makes (after : Schema) (old new : State) : Type 0 where
   pub inside : IsInside old new
   pub schema : new.now.schema ≡ after
-  pub told : told_by new.now.schema new.now.trees ≡ told_by old.now.schema old.now.trees
+  pub told : told_in_trees new.now.schema new.now.trees ≡ told_in_trees old.now.schema old.now.trees
 
 -- What is committed by a transaction that doesn't change what is told, if anything is.
 abbrev pub IsMade : State → Trees → Type 0
 IsMade s trees =
-    IsTrue s.is_open × ((t : KeptTables) → told_by s.now.schema s.now.trees ≡ Some t
-    → (schema : Schema) × IsSound schema trees × (told_by schema trees ≡ Some t))
+    IsTrue s.is_open × ((t : KeptTables) → told_in_trees s.now.schema s.now.trees ≡ Some t
+    → (schema : Schema) × IsSound schema trees × (told_in_trees schema trees ≡ Some t))
 
 -- A transaction was rolled back.
 pub record IsUndone (old new : State) : Type 0 where
@@ -157,8 +157,8 @@ pub record ReadsForm (old new : State) (rows : List Row) : Type 0 where
 -- Inside a transaction the form is written, if there is neither a form nor a cell of form 1.
 pub record Forms (old new : State) : Type 0 where
   pub inside : IsInside old new
-  pub told : (t : KeptTables) → Holds old.now.schema old.now.trees t → old.now.trees 4 ≡ []
-      → old.now.trees 1 ≡ [] → Tells new.now.schema new.now.trees t
+  pub told : (t : KeptTables) → HoldsTables old.now.schema old.now.trees t → old.now.trees 4 ≡ []
+      → old.now.trees 1 ≡ [] → TellsTables new.now.schema new.now.trees t
 
 -- ---- the move from form 1 to form 2
 
@@ -182,8 +182,8 @@ pub record Clears (last : ℤ) (old new : State) : Type 0 where
   pub left : (page rest : List Row) → old.now.schema ≡ whole_schema → AreFirst (page ++ rest)
       → old.now.trees 1 ≡ page ++ rest → last_id page ≡ Some last
       → (new.now.trees 1 ≡ rest) × (new.now.trees 4 ≡ old.now.trees 4)
-  pub holds : (t : KeptTables) → Holds old.now.schema old.now.trees t
-      → Holds new.now.schema new.now.trees t
+  pub holds : (t : KeptTables) → HoldsTables old.now.schema old.now.trees t
+      → HoldsTables new.now.schema new.now.trees t
 
 -- Of the cells of form 1 at the start, the first are in form 2, and the others are still in form 1.
 pub record Carried (before : Trees) (now : Database) (t : KeptTables) : Type 0 where
@@ -193,11 +193,11 @@ pub record Carried (before : Trees) (now : Database) (t : KeptTables) : Type 0 w
   pub rows : before 1 ≡ front ++ rest
   pub left : now.trees 1 ≡ rest
   pub form : now.trees 4 ≡ []
-  pub holds : Holds now.schema now.trees
-      (record { entries = t.entries; cells = put_cells empty (map cell_of front) })
+  pub holds : HoldsTables now.schema now.trees
+      (record { entries = t.entries; cells = put_cells empty (map cell_in_row front) })
 
 -- Inside a transaction a page of cells of form 1 that was read is moved.
-pub record Copies (page : List Row) (last : ℤ) (old new : State) : Type 0 where
+pub record MovesPage (page : List Row) (last : ℤ) (old new : State) : Type 0 where
   pub inside : IsInside old new
   pub carried : (before : Trees) (t : KeptTables) → Carried before old.now t
       → page ≡ take 100 (old.now.trees 1) → last_id page ≡ Some last → Carried before new.now t
@@ -213,4 +213,4 @@ pub record Carries (old new : State) (more : Bool) : Type 0 where
 pub record Moves (old new : State) : Type 0 where
   pub inside : IsInside old new
   pub told : (t : KeptTables) → TellsFirst old.now.schema old.now.trees t
-      → Tells new.now.schema new.now.trees t
+      → TellsTables new.now.schema new.now.trees t

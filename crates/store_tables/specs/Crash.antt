@@ -5,13 +5,13 @@ use Rattle.sqlite_schema.specs.declared.schema.Schema.{Schema}
 use Rattle.sqlite_catalog.specs.Listing.{IsSound}
 use Rattle.sqlite.specs.State.{State, HasCleanDisk}
 use Rattle.lei_outside.specs.Keeping.{KeptTables}
-use Rattle.store_tables.specs.Told.{told_by, told_in}
+use Rattle.store_tables.specs.Told.{told_in, told_in_trees}
 
 -- What an open would tell of trees that a crash may leave, by the schema listed in them.
-abbrev pub IsFound : State → Option KeptTables → Type 0
-IsFound s left = (trees : Trees) × (schema : Schema) × s.may_leave trees × IsSound schema trees
-    × (left ≡ told_by schema trees)
+abbrev pub MayBeFound : State → Option KeptTables → Type 0
+MayBeFound s left = (trees : Trees) × (schema : Schema) × s.may_leave trees × IsSound schema trees
+    × (left ≡ told_in_trees schema trees)
 
 -- While the disk is clean, a crash leaves the tables that are told, or what an open would find.
 abbrev pub leaves_in : State → Option KeptTables → Type 0
-leaves_in s left = HasCleanDisk s × ((IsSome left × (left ≡ told_in s)) ⊎ IsFound s left)
+leaves_in s left = HasCleanDisk s × ((IsSome left × (left ≡ told_in s)) ⊎ MayBeFound s left)

@@ -53,8 +53,8 @@ entry_of row = record {
 }
 
 -- The cell that is read from a row in form 1.
-abbrev pub cell_of : Row → KeptCell
-cell_of row = record {
+abbrev pub cell_in_row : Row → KeptCell
+cell_in_row row = record {
   kind = number_at row 1;
   name = bytes (column row 2);
   touched = number_at row 3;
@@ -77,7 +77,7 @@ pub record CellForm : Type 0 where
 
 -- The cells of form 1, with whole names.
 abbrev pub form_1 : CellForm
-form_1 = record { stored = stored_cell; read = cell_of }
+form_1 = record { stored = stored_cell; read = cell_in_row }
 
 -- The cells of form 2, with names in two parts.
 abbrev pub form_2 : CellForm

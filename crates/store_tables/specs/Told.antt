@@ -7,7 +7,7 @@ use Rattle.sqlite_value.specs.Order.{Row, value_cmp}
 use Rattle.sqlite_trees.specs.Tree.{Trees, rowid}
 use Rattle.sqlite_schema.specs.declared.schema.Schema.{Schema}
 use Rattle.sqlite.specs.State.{State}
-use Rattle.lei_outside.specs.Keeping.{CellContent, CellPlace, KeptTables, content_of, place_of}
+use Rattle.lei_outside.specs.Keeping.{CellContent, CellPlace, KeptTables, cell_content, cell_place}
 use Rattle.store_statements.specs.Schemas.{both_schema, entry_schema, no_schema, store_schema, whole_schema}
 use Rattle.store_tables.specs.Same.{same_row, same_schema}
 use Rattle.store_tables.specs.Stored.{CellForm, entry_of, form_1, form_2, form_row, is_cell, is_entry, second_row}
@@ -21,8 +21,8 @@ pub record StoredRows : Type 0 where
 
 -- The rows under the schema. A table that isn't made has none. Under any schema other than the five, the rows aren't
 -- defined.
-abbrev pub rows_in : Schema → Trees → Option StoredRows
-rows_in schema trees =
+abbrev pub stored_rows_in : Schema → Trees → Option StoredRows
+stored_rows_in schema trees =
     if same_schema schema whole_schema
     then Some (record { entries = trees 0; cells = trees 1; forms = trees 4; cells2 = trees 5 })
     else (if same_schema schema store_schema
@@ -45,18 +45,18 @@ are_told form entries cells = (rise entries && list_all is_entry entries) &&
     (rise cells && list_all (is_cell form) cells)
 
 -- What is kept in a place.
-abbrev pub placed : CellForm → Row → CellPlace × CellContent
-placed form row = (place_of (form.read row), content_of (form.read row))
+abbrev pub place_and_content : CellForm → Row → CellPlace × CellContent
+place_and_content form row = (cell_place (form.read row), cell_content (form.read row))
 
 -- The entries and the cells that the rows have.
-abbrev pub tables_of : CellForm → List Row → List Row → KeptTables
-tables_of form entries cells =
-    record { entries = map entry_of entries; cells = from_entries (map (placed form) cells) }
+abbrev pub tables_in_rows : CellForm → List Row → List Row → KeptTables
+tables_in_rows form entries cells =
+    record { entries = map entry_of entries; cells = from_entries (map (place_and_content form) cells) }
 
 -- The tables that rows tell by a form: field by field what they have, and none if some row doesn't have an entry or a
 -- cell.
 abbrev pub told_as : CellForm → List Row → List Row → Option KeptTables
-told_as form entries cells = if are_told form entries cells then Some (tables_of form entries cells) else None
+told_as form entries cells = if are_told form entries cells then Some (tables_in_rows form entries cells) else None
 
 -- There is no row.
 abbrev pub is_none : List Row → Bool
@@ -77,14 +77,14 @@ abbrev pub is_second : StoredRows → Bool
 is_second rows = says_second rows.forms && is_none rows.cells
 
 -- The tables that the rows tell, by the form of the store. A store of neither form tells nothing.
-abbrev pub told_of : StoredRows → Option KeptTables
-told_of rows =
+abbrev pub told_in_rows : StoredRows → Option KeptTables
+told_in_rows rows =
     if is_first rows then told_as form_1 rows.entries rows.cells
     else (if is_second rows then told_as form_2 rows.entries rows.cells2 else None)
 
 -- What trees under a schema tell.
-abbrev pub told_by : Schema → Trees → Option KeptTables
-told_by schema trees = option_and_then told_of (rows_in schema trees)
+abbrev pub told_in_trees : Schema → Trees → Option KeptTables
+told_in_trees schema trees = option_and_then told_in_rows (stored_rows_in schema trees)
 
 -- A connection tells its tables between transactions, while it is open and its disk is clean.
 abbrev pub is_settled : State → Bool
@@ -92,4 +92,4 @@ is_settled s = s.is_clean && (s.is_open && not s.in_transaction)
 
 -- The tables that a connection tells.
 abbrev pub told_in : State → Option KeptTables
-told_in s = if is_settled s then told_by s.now.schema s.now.trees else None
+told_in s = if is_settled s then told_in_trees s.now.schema s.now.trees else None

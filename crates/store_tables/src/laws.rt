@@ -7,21 +7,22 @@ ghost use Rattle.sqlite_trees.specs.Tree.{Trees};
 ghost use Rattle.sqlite_schema.specs.declared.schema.Schema.{Schema};
 ghost use Rattle.lei_outside.specs.Keeping.{AreKept, KeptTables};
 ghost use Rattle.lei_outside.specs.declared.keeper.KeptCell.{KeptCell};
-ghost use Rattle.store_statements.specs.Names.{AreParts, lei_of, rest_of};
+ghost use Rattle.store_statements.specs.Names.{AreNameParts, lei_of, rest_of};
 ghost use Rattle.store_tables.specs.Forms.{first_store, second_store};
-ghost use Rattle.store_tables.specs.Told.{told_by, told_of};
+ghost use Rattle.store_tables.specs.Told.{told_in_rows, told_in_trees};
 
 /// Tables that a store tells are kept tables: the numbers of the entries are at least 1 and rise, and each cell has the
 /// number of an entry.
 pub fn told_tables_are_kept()
-    ensures { (schema : Schema) (trees : Trees) (t : KeptTables) → told_by schema trees ≡ Some t → AreKept t }
+    ensures { (schema : Schema) (trees : Trees) (t : KeptTables) → told_in_trees schema trees ≡ Some t
+        → AreKept t }
 {}
 
 /// A name is its two parts joined, and no other two texts that fit form it.
 pub fn names_are_split_once()
-    ensures parts { (name : List ℕ) → AreParts (lei_of name) (rest_of name)
+    ensures parts { (name : List ℕ) → AreNameParts (lei_of name) (rest_of name)
         × (lei_of name ++ rest_of name ≡ name) }
-    ensures once { (name lei rest : List ℕ) → AreParts lei rest → lei ++ rest ≡ name
+    ensures once { (name lei rest : List ℕ) → AreNameParts lei rest → lei ++ rest ≡ name
         → (lei ≡ lei_of name) × (rest ≡ rest_of name) }
 {}
 
@@ -37,5 +38,5 @@ pub fn parts_are_in_the_order_of_names()
 /// Stores with the same entries and cells tell the same tables in both forms, or none.
 pub fn both_forms_tell_the_same()
     ensures { (entries : List Row) (cells : List (ℤ × KeptCell))
-        → told_of (first_store entries cells) ≡ told_of (second_store entries cells) }
+        → told_in_rows (first_store entries cells) ≡ told_in_rows (second_store entries cells) }
 {}

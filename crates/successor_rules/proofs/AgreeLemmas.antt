@@ -10,7 +10,7 @@ use Rattle.lei_records.specs.declared.view.CellKey.{CellKey}
 use Rattle.lei_records.specs.declared.view.Seen.{Seen}
 use Rattle.successor_rules.specs.declared.walks.Walked.{Walked}
 use Rattle.successor_rules.specs.Chains.{Nexts}
-use Rattle.successor_rules.specs.Levels.{Agree, SeenNexts, each_once, first_lacking, held_nexts, is_back, is_wide, known_nexts, lacks_nexts, levels, next_level, onward, others, spread_out, spread_over}
+use Rattle.successor_rules.specs.Levels.{Agree, SeenNexts, each_once, first_lacking, has_wide_levels, held_nexts, is_back, known_nexts, lacks_nexts, levels, next_level, onward_leis, others, spread_out, spread_over}
 use Rattle.successor_rules.specs.Walks.{unless_lacking}
 use Rattle.successor_rules.proofs.LevelLemmas.{Within, has, has-append, levels-last, next-has, once-distinct, others-has, own_text, same_text}
 use Rattle.successor_rules.proofs.RiseLemmas.{gathered, levels-has, others-begin, others-next}
@@ -36,11 +36,11 @@ text_laws = record {
 module _ (nexts : Nexts) (own : List ℕ) where
   -- what a level names is named by a member
   pub named_there : (xs : List (List ℕ)) (y : List ℕ) → has (next_level nexts own xs) y ≡ true
-      → (x : List ℕ) × (has xs x ≡ true) × (has (onward nexts own x) y ≡ true)
+      → (x : List ℕ) × (has xs x ≡ true) × (has (onward_leis nexts own x) y ≡ true)
   named_there [] y at = absurd (false≢true at)
   named_there (x ∷ xs) y at =
-      elim (or_cases (has (onward nexts own x) y) (has (next_level nexts own xs) y)
-      (sym (has-append (onward nexts own x) (next_level nexts own xs) y) ∙ at)) [
+      elim (or_cases (has (onward_leis nexts own x) y) (has (next_level nexts own xs) y)
+      (sym (has-append (onward_leis nexts own x) (next_level nexts own xs) y) ∙ at)) [
         | inl here ↦ (x, or_left (bytes_eq x x) (has xs x) (own_text x), here)
         | inr later ↦
             let rest = named_there xs y later in
@@ -52,7 +52,7 @@ abbrev Fewer : Nexts → Nexts → Type 0
 Fewer less more = (lei : List ℕ) → Within (less lei) (more lei)
 
 module _ (less more : Nexts) (own : List ℕ) (fewer : Fewer less more) where
-  onward-fewer : (x y : List ℕ) → has (onward less own x) y ≡ true → has (onward more own x) y ≡ true
+  onward-fewer : (x y : List ℕ) → has (onward_leis less own x) y ≡ true → has (onward_leis more own x) y ≡ true
   onward-fewer x y = by (bytes_eq x own)
     where
       by : (b : Bool) → has (cond b [] (less x)) y ≡ true → has (cond b [] (more x)) y ≡ true
@@ -86,7 +86,7 @@ module _ (less more : Nexts) (own : List ℕ) (fewer : Fewer less more) where
       joins false b c on at = on at
 
   -- so it reaches no more
-  pub still_wide : (first : List (List ℕ)) → is_wide less own first ≡ true → is_wide more own first ≡ true
+  pub still_wide : (first : List (List ℕ)) → has_wide_levels less own first ≡ true → has_wide_levels more own first ≡ true
   still_wide first wide =
       let within = levels-fewer 201 first in
       let count : length (others 201 less own first) ≤ length (others 201 more own first) =
@@ -134,7 +134,7 @@ module _ (one other : Nexts) (own : List ℕ) where
         ∙ sym (levels-has other own first 200 own)) in
         λ i. cond (wide all i) Walked.Long (cond (back i) Walked.Meets Walked.Ends)
       where
-        wide : others 201 one own first ≡ others 201 other own first → is_wide one own first ≡ is_wide other own first
+        wide : others 201 one own first ≡ others 201 other own first → has_wide_levels one own first ≡ has_wide_levels other own first
         wide all = ap (λ l. nat_lt 200 (length l)) all
 
 -- ---- what a search finds
@@ -180,9 +180,9 @@ module _ (answers : SeenNexts) (nexts : Nexts) (key : List ℕ → CellKey) (own
       (spread_over answers key own first ≡ spread_out nexts own first)
       ⊎ ((lei : List ℕ) × (lacks_nexts (answers lei) ≡ true) × (has (levels 201 (known_nexts answers) own first) lei ≡ true)
       × (spread_over answers key own first ≡ Walked.Missing (key lei)))
-  agreeing-tells = elim (cases_Bool (is_wide known own first)) [
+  agreeing-tells = elim (cases_Bool (has_wide_levels known own first)) [
     | inl wide ↦ inl (over true lacking back wide refl refl
-        ∙ sym (cond-true (is_wide nexts own first) Walked.Long (cond (is_back nexts own first) Walked.Meets Walked.Ends)
+        ∙ sym (cond-true (has_wide_levels nexts own first) Walked.Long (cond (is_back nexts own first) Walked.Meets Walked.Ends)
         (still_wide known nexts own known_fewer first wide)))
     | inr narrow ↦ by lacking refl narrow
   ]
@@ -196,12 +196,12 @@ module _ (answers : SeenNexts) (nexts : Nexts) (key : List ℕ → CellKey) (own
       back : Bool
       back = is_back (known_nexts answers) own first
 
-      over : (w : Bool) (l : Option (List ℕ)) (b : Bool) → is_wide (known_nexts answers) own first ≡ w → first_lacking answers own first ≡ l
+      over : (w : Bool) (l : Option (List ℕ)) (b : Bool) → has_wide_levels (known_nexts answers) own first ≡ w → first_lacking answers own first ≡ l
           → is_back (known_nexts answers) own first ≡ b
           → spread_over answers key own first ≡ cond w Walked.Long (unless_lacking key l (cond b Walked.Meets Walked.Ends))
       over w l b wide lacks met = λ i. cond (wide i) Walked.Long (unless_lacking key (lacks i) (cond (met i) Walked.Meets Walked.Ends))
 
-      by : (l : Option (List ℕ)) → first_lacking answers own first ≡ l → is_wide (known_nexts answers) own first ≡ false
+      by : (l : Option (List ℕ)) → first_lacking answers own first ≡ l → has_wide_levels (known_nexts answers) own first ≡ false
           → (spread_over answers key own first ≡ spread_out nexts own first)
           ⊎ ((lei : List ℕ) × (lacks_nexts (answers lei) ≡ true) × (has (levels 201 (known_nexts answers) own first) lei ≡ true)
           × (spread_over answers key own first ≡ Walked.Missing (key lei)))
@@ -213,4 +213,4 @@ module _ (answers : SeenNexts) (nexts : Nexts) (key : List ℕ → CellKey) (own
       by None is narrow =
           let same = spread-same (known_nexts answers) nexts own first (λ x at.
           sym (agree x (find-none (λ l. lacks_nexts (answers l)) (others 201 (known_nexts answers) own first) x is at))) in
-          inl (over (is_wide (known_nexts answers) own first) None (is_back (known_nexts answers) own first) refl is refl ∙ same)
+          inl (over (has_wide_levels (known_nexts answers) own first) None (is_back (known_nexts answers) own first) refl is refl ∙ same)

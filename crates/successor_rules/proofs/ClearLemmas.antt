@@ -8,7 +8,7 @@ use Rattle.std.proofs.lemmas.Map.Made.{is_member-Decides}
 use Rattle.std.proofs.lemmas.Slice.Eq.{bytes_eq-Decides}
 use Rattle.successor_rules.specs.declared.walks.Walked.{Walked}
 use Rattle.successor_rules.specs.Chains.{AllEnd, EndsClear, EndsIn, IsTurned, Nexts}
-use Rattle.successor_rules.specs.Levels.{each_once, is_back, is_wide, next_level, onward, others, spread_out}
+use Rattle.successor_rules.specs.Levels.{each_once, has_wide_levels, is_back, next_level, onward_leis, others, spread_out}
 use Rattle.successor_rules.proofs.ChainLemmas.{keeps_ends}
 use Rattle.successor_rules.proofs.LevelLemmas.{has, has-append, next-has, once-has, same_text}
 use Rattle.successor_rules.proofs.RiseLemmas.{levels-has, others-next, others-stand}
@@ -53,8 +53,8 @@ module _ (nexts : Nexts) (own : List ℕ) (targets : List (List ℕ)) (ended : s
   unfolding reached
   named = targets ++ next_level nexts own reached
 
-  parts : (is_wide nexts own targets ≡ false) × (is_back nexts own targets ≡ false)
-  parts = ended_parts (is_wide nexts own targets) (is_back nexts own targets) ended
+  parts : (has_wide_levels nexts own targets ≡ false) × (is_back nexts own targets ≡ false)
+  parts = ended_parts (has_wide_levels nexts own targets) (is_back nexts own targets) ended
 
   -- the reached LEIs are all the named ones except the entity's own
   closed : reached ≡ each_once (own ∷ []) named
@@ -81,7 +81,7 @@ module _ (nexts : Nexts) (own : List ℕ) (targets : List (List ℕ)) (ended : s
   unfolding reached named
   goes_on lei next at names =
       let is = inside lei at in
-      let onward_has : has (onward nexts own lei) next ≡ true =
+      let onward_has : has (onward_leis nexts own lei) next ≡ true =
       ap (λ l. has l next) (cond-false (bytes_eq lei own) [] (nexts lei) is.0) ∙ has_so (nexts lei) next names in
       has-append targets (next_level nexts own reached) next
       ∙ or_right (has targets next) (has (next_level nexts own reached) next) (next-has nexts own reached lei next is.1 onward_has)

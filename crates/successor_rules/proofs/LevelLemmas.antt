@@ -11,7 +11,7 @@ use Rattle.std.proofs.lemmas.List.{append-nil}
 use Rattle.std.proofs.lemmas.List.Folds.{list_any-append}
 use Rattle.std.proofs.lemmas.Slice.Eq.{bytes_eq-Decides}
 use Rattle.successor_rules.specs.Chains.{Nexts}
-use Rattle.successor_rules.specs.Levels.{each_once, levels, next_level, onward, others}
+use Rattle.successor_rules.specs.Levels.{each_once, levels, next_level, onward_leis, others}
 
 -- the list has the LEI
 abbrev pub has : List (List ℕ) → List ℕ → Bool
@@ -125,31 +125,31 @@ once-distinct seen (x ∷ xs) =
 
 module _ (nexts : Nexts) (own : List ℕ) where
   pub next-append : (xs ys : List (List ℕ)) → next_level nexts own (xs ++ ys) ≡ next_level nexts own xs ++ next_level nexts own ys
-  next-append xs ys = flat_map-append (onward nexts own) xs ys
+  next-append xs ys = flat_map-append (onward_leis nexts own) xs ys
 
   -- it has all that a member names
-  pub next-has : (xs : List (List ℕ)) (x y : List ℕ) → has xs x ≡ true → has (onward nexts own x) y ≡ true → has (next_level nexts own xs) y ≡ true
+  pub next-has : (xs : List (List ℕ)) (x y : List ℕ) → has xs x ≡ true → has (onward_leis nexts own x) y ≡ true → has (next_level nexts own xs) y ≡ true
   next-has [] x y at names = absurd (false≢true at)
   next-has (z ∷ zs) x y at names =
-      has-append (onward nexts own z) (next_level nexts own zs) y
+      has-append (onward_leis nexts own z) (next_level nexts own zs) y
       ∙ elim (or_cases (bytes_eq x z) (has zs x) at) [
-        | inl is ↦ or_left (has (onward nexts own z) y) (has (next_level nexts own zs) y)
-            (subst (λ m. has (onward nexts own m) y ≡ true) (same_text x z is) names)
-        | inr is ↦ or_right (has (onward nexts own z) y) (has (next_level nexts own zs) y) (next-has zs x y is names)
+        | inl is ↦ or_left (has (onward_leis nexts own z) y) (has (next_level nexts own zs) y)
+            (subst (λ m. has (onward_leis nexts own m) y ≡ true) (same_text x z is) names)
+        | inr is ↦ or_right (has (onward_leis nexts own z) y) (has (next_level nexts own zs) y) (next-has zs x y is names)
       ]
 
   -- with one more member it has what that member names
   next-one_more : (seen found : List (List ℕ)) (x : List ℕ) → Within (next_level nexts own seen) found
-      → Within (next_level nexts own (seen ++ x ∷ [])) (found ++ each_once found (onward nexts own x))
+      → Within (next_level nexts own (seen ++ x ∷ [])) (found ++ each_once found (onward_leis nexts own x))
   next-one_more seen found x within = record {
     each = λ y at.
         let parts = sym (ap (λ l. has l y) (next-append seen (x ∷ []))
-        ∙ (has-append (next_level nexts own seen) (onward nexts own x ++ []) y)) ∙ at in
-        let covers = once-covers found (onward nexts own x) in
-        elim (or_cases (has (next_level nexts own seen) y) (has (onward nexts own x ++ []) y) parts) [
-          | inl is ↦ has-append found (each_once found (onward nexts own x)) y
-              ∙ or_left (has found y) (has (each_once found (onward nexts own x)) y) (within.each y is)
-          | inr is ↦ covers.each y (subst (λ l. has l y ≡ true) (append-nil (onward nexts own x)) is)
+        ∙ (has-append (next_level nexts own seen) (onward_leis nexts own x ++ []) y)) ∙ at in
+        let covers = once-covers found (onward_leis nexts own x) in
+        elim (or_cases (has (next_level nexts own seen) y) (has (onward_leis nexts own x ++ []) y) parts) [
+          | inl is ↦ has-append found (each_once found (onward_leis nexts own x)) y
+              ∙ or_left (has found y) (has (each_once found (onward_leis nexts own x)) y) (within.each y is)
+          | inr is ↦ covers.each y (subst (λ l. has l y ≡ true) (append-nil (onward_leis nexts own x)) is)
         ];
   }
 
@@ -159,7 +159,7 @@ module _ (nexts : Nexts) (own : List ℕ) where
   next-once seen found [] within = refl
   next-once seen found (x ∷ xs) within =
       let later = seen ++ x ∷ [] in
-      let names = onward nexts own x in
+      let names = onward_leis nexts own x in
       let more = each_once found names in
       elim (has seen x) as (λ b. has seen x ≡ b → each_once found (names ++ next_level nexts own xs)
       ≡ each_once found (next_level nexts own (cond b (each_once seen xs) (x ∷ each_once later xs)))) [
@@ -179,7 +179,7 @@ module _ (nexts : Nexts) (own : List ℕ) where
   next-member seen [] y none = refl
   next-member seen (x ∷ xs) y none =
       let later = seen ++ x ∷ [] in
-      let names = onward nexts own x in
+      let names = onward_leis nexts own x in
       let rest = has-append names (next_level nexts own xs) y in
       elim (has seen x) as (λ b. has seen x ≡ b → has (names ++ next_level nexts own xs) y
       ≡ has (next_level nexts own (cond b (each_once seen xs) (x ∷ each_once later xs))) y) [
@@ -189,18 +189,18 @@ module _ (nexts : Nexts) (own : List ℕ) where
             ∙ sym (has-append names (next_level nexts own (each_once later xs)) y))
       ] refl
     where
-      unnamed : has seen x ≡ true → has (onward nexts own x) y ≡ false
-      unnamed t = elim (cases_Bool (has (onward nexts own x) y)) [
+      unnamed : has seen x ≡ true → has (onward_leis nexts own x) y ≡ false
+      unnamed t = elim (cases_Bool (has (onward_leis nexts own x) y)) [
         | inl is ↦ absurd (false≢true (sym none ∙ next-has seen x y t is))
         | inr is ↦ is
       ]
 
-      still_none : has (onward nexts own x) y ≡ false → has (next_level nexts own (seen ++ x ∷ [])) y ≡ false
+      still_none : has (onward_leis nexts own x) y ≡ false → has (next_level nexts own (seen ++ x ∷ [])) y ≡ false
       still_none is =
           ap (λ l. has l y) (next-append seen (x ∷ []))
-          ∙ (has-append (next_level nexts own seen) (onward nexts own x ++ []) y
-          ∙ (ap (λ b. b || has (onward nexts own x ++ []) y) none
-          ∙ (ap (λ l. has l y) (append-nil (onward nexts own x)) ∙ is)))
+          ∙ (has-append (next_level nexts own seen) (onward_leis nexts own x ++ []) y
+          ∙ (ap (λ b. b || has (onward_leis nexts own x ++ []) y) none
+          ∙ (ap (λ l. has l y) (append-nil (onward_leis nexts own x)) ∙ is)))
 
       by : (a b c : Bool) → (a ≡ false → b ≡ c) → (a || b) ≡ (a || c)
       by true b c is = refl

@@ -11,7 +11,7 @@ use Rattle.lei_records.specs.declared.view.CellKey.{CellKey}
 use Rattle.lei_records.specs.declared.view.Seen.{Seen}
 use Rattle.successor_rules.specs.declared.walks.Walked.{Walked}
 use Rattle.successor_rules.specs.Chains.{Nexts}
-use Rattle.successor_rules.specs.Levels.{SeenNexts, first_lacking, held_nexts, is_back, is_wide, known_nexts, lacks_nexts, levels, next_level, onward, others, reached, spread_over}
+use Rattle.successor_rules.specs.Levels.{SeenNexts, first_lacking, has_wide_levels, held_nexts, is_back, known_nexts, lacks_nexts, levels, next_level, onward_leis, others, reachable, spread_over}
 use Rattle.successor_rules.specs.Walks.{unless_lacking}
 use Rattle.successor_rules.proofs.AgreeLemmas.{find-none, find-some, named_there, others-same-all, spread-same, text_laws}
 use Rattle.successor_rules.proofs.ViewLemmas.{spread-whole}
@@ -96,14 +96,14 @@ module _ (nexts : Nexts) (own : List ℕ) (first : List (List ℕ)) where
 -- ---- one reaches too many if another one that names less does
 
 module _ (one other : Nexts) (own : List ℕ) (first : List (List ℕ))
-    (more : (x : List ℕ) → has (reached one own first) x ≡ true → Within (one x) (other x)) where
+    (more : (x : List ℕ) → has (reachable one own first) x ≡ true → Within (one x) (other x)) where
   abbrev all_one : List (List ℕ)
   all_one = others 201 one own first
 
   abbrev all_other : List (List ℕ)
   all_other = others 201 other own first
 
-  onward_more : (x y : List ℕ) → has (reached one own first) x ≡ true → has (onward one own x) y ≡ true → has (onward other own x) y ≡ true
+  onward_more : (x y : List ℕ) → has (reachable one own first) x ≡ true → has (onward_leis one own x) y ≡ true → has (onward_leis other own x) y ≡ true
   onward_more x y at names = by (bytes_eq x own) names
     where
       by : (b : Bool) → has (cond b [] (one x)) y ≡ true → has (cond b [] (other x)) y ≡ true
@@ -133,7 +133,7 @@ module _ (one other : Nexts) (own : List ℕ) (first : List (List ℕ))
           | inl at_first ↦ or_left (has first y) (has (next_level other own all_other) y) at_first
           | inr later ↦
               let by = named_there one own (take k all_one) y later in
-              let early : has (reached one own first) by.0 ≡ true =
+              let early : has (reachable one own first) by.0 ≡ true =
               front-has (take k all_one) (take 200 all_one) by.0
               (begins_longer (take k all_one) (take 200 all_one) all_one (front k all_one) (front 200 all_one)
               (shorter_front k all_one few_so_far (omega (arith, less)))) by.1 in
@@ -190,7 +190,7 @@ module _ (one other : Nexts) (own : List ℕ) (first : List (List ℕ))
         (distinct-front 201 all_one (once-distinct (own ∷ []) (levels 201 one own first))) within.each in
         omega (arith, size, fits, few)
 
-  pub wide_by_front : is_wide one own first ≡ true → is_wide other own first ≡ true
+  pub wide_by_front : has_wide_levels one own first ≡ true → has_wide_levels other own first ≡ true
   wide_by_front wide = elim (cases_lt 200 (length all_other)) [
     | inl many ↦ lt-ltb 200 (length all_other) many
     | inr few ↦ absurd (too_many_then few (ltb-true 200 (length all_one) wide))
@@ -203,8 +203,8 @@ abbrev pub IsNearer : SeenNexts → SeenNexts → List ℕ → Type 0
 IsNearer answers others lei = (lacks_nexts (answers lei) ≡ true) ⊎ (answers lei ≡ others lei)
 
 module _ (answers more : SeenNexts) (key : List ℕ → CellKey) (own : List ℕ) (first : List (List ℕ))
-    (near : (lei : List ℕ) → has (reached (known_nexts answers) own first) lei ≡ true → IsNearer answers more lei) where
-  known_within : (lei : List ℕ) → has (reached (known_nexts answers) own first) lei ≡ true → Within (known_nexts answers lei) (known_nexts more lei)
+    (near : (lei : List ℕ) → has (reachable (known_nexts answers) own first) lei ≡ true → IsNearer answers more lei) where
+  known_within : (lei : List ℕ) → has (reachable (known_nexts answers) own first) lei ≡ true → Within (known_nexts answers lei) (known_nexts more lei)
   known_within lei at = elim (near lei at) [
     | inl lacking ↦ record { each = λ y names. absurd (none_named (answers lei) y lacking names) }
     | inr same ↦ record { each = λ y names. ap (λ s. has (held_nexts s) y) (sym same) ∙ names }
@@ -219,16 +219,16 @@ module _ (answers more : SeenNexts) (key : List ℕ → CellKey) (own : List ℕ
   abbrev pub SameOrLacks : Type 0
   SameOrLacks =
       (spread_over answers key own first ≡ spread_over more key own first)
-      ⊎ ((lei : List ℕ) × (lacks_nexts (answers lei) ≡ true) × (has (reached (known_nexts answers) own first) lei ≡ true)
+      ⊎ ((lei : List ℕ) × (lacks_nexts (answers lei) ≡ true) × (has (reachable (known_nexts answers) own first) lei ≡ true)
       × (spread_over answers key own first ≡ Walked.Missing (key lei)))
 
-  over : (view : SeenNexts) (w : Bool) (l : Option (List ℕ)) → is_wide (known_nexts view) own first ≡ w → first_lacking view own first ≡ l
+  over : (view : SeenNexts) (w : Bool) (l : Option (List ℕ)) → has_wide_levels (known_nexts view) own first ≡ w → first_lacking view own first ≡ l
       → spread_over view key own first ≡ cond w Walked.Long (unless_lacking key l (cond (is_back (known_nexts view) own first) Walked.Meets Walked.Ends))
   over view w l wide lacks =
       λ i. cond (wide i) Walked.Long (unless_lacking key (lacks i) (cond (is_back (known_nexts view) own first) Walked.Meets Walked.Ends))
 
   pub near-tells : SameOrLacks
-  near-tells = elim (cases_Bool (is_wide known own first)) [
+  near-tells = elim (cases_Bool (has_wide_levels known own first)) [
     | inl wide ↦ inl (over answers true (first_lacking answers own first) wide refl
         ∙ sym (over more true (first_lacking more own first) (wide_by_front known (known_nexts more) own first known_within wide) refl))
     | inr narrow ↦ by (first_lacking answers own first) refl narrow
@@ -238,10 +238,10 @@ module _ (answers more : SeenNexts) (key : List ℕ → CellKey) (own : List ℕ
       known = known_nexts answers
 
       -- if they aren't too many, all are among the first 200
-      all_reached : is_wide (known_nexts answers) own first ≡ false → reached (known_nexts answers) own first ≡ others 201 (known_nexts answers) own first
+      all_reached : has_wide_levels (known_nexts answers) own first ≡ false → reachable (known_nexts answers) own first ≡ others 201 (known_nexts answers) own first
       all_reached narrow = take_all 200 (others 201 (known_nexts answers) own first) (ltb-false 200 (length (others 201 (known_nexts answers) own first)) narrow)
 
-      by : (l : Option (List ℕ)) → first_lacking answers own first ≡ l → is_wide (known_nexts answers) own first ≡ false → SameOrLacks
+      by : (l : Option (List ℕ)) → first_lacking answers own first ≡ l → has_wide_levels (known_nexts answers) own first ≡ false → SameOrLacks
       by (Some lei) is narrow =
           let found = find-some (λ l. lacks_nexts (answers l)) (others 201 (known_nexts answers) own first) lei is in
           inr (lei, found.1, ap (λ l. has l lei) (all_reached narrow) ∙ found.0, over answers false (Some lei) narrow is)
@@ -254,8 +254,8 @@ module _ (answers more : SeenNexts) (key : List ℕ → CellKey) (own : List ℕ
           others-same-all (known_nexts answers) (known_nexts more) own first (λ x at. ap held_nexts (same x at)) in
           let none : first_lacking more own first ≡ None =
           ap (find (λ l. lacks_nexts (more l))) (sym alls) ∙ (find-same all (λ x at. ap lacks_nexts (sym (same x at))) ∙ is) in
-          inl (over answers (is_wide (known_nexts answers) own first) None refl is
-          ∙ (spreads ∙ sym (over more (is_wide (known_nexts more) own first) None refl none)))
+          inl (over answers (has_wide_levels (known_nexts answers) own first) None refl is
+          ∙ (spreads ∙ sym (over more (has_wide_levels (known_nexts more) own first) None refl none)))
         where
           told : (x : List ℕ) → lacks_nexts (answers x) ≡ false → IsNearer answers more x → answers x ≡ more x
           told x known (inl lacking) = absurd (false≢true (sym known ∙ lacking))
@@ -297,13 +297,13 @@ never_missing false false key is = cc
 -- it is that of an LEI that is reached
 pub spread-lacks : (answers : SeenNexts) (key : List ℕ → CellKey) (own : List ℕ) (first : List (List ℕ)) (cell : CellKey)
     → spread_over answers key own first ≡ Walked.Missing cell
-    → (lei : List ℕ) × (lacks_nexts (answers lei) ≡ true) × (has (reached (known_nexts answers) own first) lei ≡ true) × (key lei ≡ cell)
+    → (lei : List ℕ) × (lacks_nexts (answers lei) ≡ true) × (has (reachable (known_nexts answers) own first) lei ≡ true) × (key lei ≡ cell)
 spread-lacks answers key own first cell is =
     let whole : SeenNexts = λ lei. patch (answers lei) in
     elim (near-tells answers whole key own first (λ lei at. patch-near (answers lei))) [
       | inl same ↦
           let ended = spread-whole whole key own first (λ lei. patch-known (answers lei)) in
-          absurd (never_missing (is_wide (known_nexts whole) own first) (is_back (known_nexts whole) own first) cell (sym ended ∙ (sym same ∙ is)))
+          absurd (never_missing (has_wide_levels (known_nexts whole) own first) (is_back (known_nexts whole) own first) cell (sym ended ∙ (sym same ∙ is)))
       | inr lacks ↦
           let found : Walked.Missing (key lacks.0) ≡ Walked.Missing cell = sym lacks.3 ∙ is in
           let same : key lacks.0 ≡ cell = cc in

@@ -7,11 +7,11 @@ use Rattle.std.proofs.Common.{refl, sym, ap, subst, ◌∙◌, inl, inr, arith}
 use Rattle.std.proofs.lemmas.Bool.{cases_Bool, cases_lt, cond-false, cond-true, eq-eqb, false≢true, false_from_ne_true, le-ltb, lt-ltb, ne_eqb, or_cases, or_left, or_parts, or_right}
 use Rattle.std.proofs.lemmas.Map.Made.{is_member-Decides}
 use Rattle.std.proofs.lemmas.Slice.Eq.{bytes_eq-Decides}
-use Rattle.lei_records.specs.Walks.{Next, is_long, is_met, members}
+use Rattle.lei_records.specs.Walks.{Next, is_long, is_met, walk_members}
 use Rattle.successor_rules.specs.declared.walks.Walked.{Walked}
-use Rattle.successor_rules.specs.Chains.{AllEnd, Leads, Nexts}
-use Rattle.successor_rules.specs.Levels.{each_once, is_back, is_wide, levels, onward, others, spread_out}
-use Rattle.successor_rules.specs.Walks.{walked}
+use Rattle.successor_rules.specs.Chains.{AllEnd, LeadsInSteps, Nexts}
+use Rattle.successor_rules.specs.Levels.{each_once, has_wide_levels, is_back, levels, onward_leis, others, spread_out}
+use Rattle.successor_rules.specs.Walks.{walk_end}
 use Rattle.successor_rules.proofs.AgreeLemmas.{text_laws}
 use Rattle.successor_rules.proofs.ChainLemmas.{never_returns}
 use Rattle.successor_rules.proofs.LevelLemmas.{has, has-append, own_text, same_text}
@@ -64,31 +64,31 @@ module _ (next : Next) where
 
   -- the first member, and the walk from the next one
   members-next : (n : ℕ) (first : List ℕ) (named : Option (List ℕ)) → next first ≡ named
-      → members (suc n) next first ≡ first ∷ option_map_or (members n next) named []
-  unfolding members
-  members-next n first named is = ap (λ o. first ∷ option_map_or (members n next) o []) is
+      → walk_members (suc n) next first ≡ first ∷ option_map_or (walk_members n next) named []
+  unfolding walk_members
+  members-next n first named is = ap (λ o. first ∷ option_map_or (walk_members n next) o []) is
 
-  members-length : (n : ℕ) (first : List ℕ) → length (members n next first) ≤ n
-  unfolding members
+  members-length : (n : ℕ) (first : List ℕ) → length (walk_members n next first) ≤ n
+  unfolding walk_members
   members-length zero first = omega arith
   members-length (suc n) first = by (members-length n) (next first)
     where
-      by : ((y : List ℕ) → length (members n next y) ≤ n) → (named : Option (List ℕ)) → length (first ∷ option_map_or (members n next) named []) ≤ suc n
+      by : ((y : List ℕ) → length (walk_members n next y) ≤ n) → (named : Option (List ℕ)) → length (first ∷ option_map_or (walk_members n next) named []) ≤ suc n
       by less None = omega arith
       by less (Some y) = let rest = less y in omega arith
 
   -- a member of fewer is one of more
-  members-more : (n : ℕ) (first x : List ℕ) → has (members n next first) x ≡ true → has (members (suc n) next first) x ≡ true
-  unfolding members
+  members-more : (n : ℕ) (first x : List ℕ) → has (walk_members n next first) x ≡ true → has (walk_members (suc n) next first) x ≡ true
+  unfolding walk_members
   members-more zero first x at = absurd (false≢true at)
   members-more (suc n) first x at = by (λ y. members-more n y x) (next first) at
     where
-      by : ((y : List ℕ) → has (members n next y) x ≡ true → has (members (suc n) next y) x ≡ true) → (named : Option (List ℕ)) → has (first ∷ option_map_or (members n next) named []) x ≡ true
-          → has (first ∷ option_map_or (members (suc n) next) named []) x ≡ true
+      by : ((y : List ℕ) → has (walk_members n next y) x ≡ true → has (walk_members (suc n) next y) x ≡ true) → (named : Option (List ℕ)) → has (first ∷ option_map_or (walk_members n next) named []) x ≡ true
+          → has (first ∷ option_map_or (walk_members (suc n) next) named []) x ≡ true
       by more None at = at
-      by more (Some y) at = elim (or_cases (bytes_eq x first) (has (members n next y) x) at) [
-        | inl here ↦ or_left (bytes_eq x first) (has (members (suc n) next y) x) here
-        | inr later ↦ or_right (bytes_eq x first) (has (members (suc n) next y) x) (more y later)
+      by more (Some y) at = elim (or_cases (bytes_eq x first) (has (walk_members n next y) x) at) [
+        | inl here ↦ or_left (bytes_eq x first) (has (walk_members (suc n) next y) x) here
+        | inr later ↦ or_right (bytes_eq x first) (has (walk_members (suc n) next y) x) (more y later)
       ]
 
   names : (lei named : List ℕ) → next lei ≡ Some named → Contains (nexts lei) named
@@ -98,32 +98,32 @@ module _ (next : Next) where
       (ap (λ o. has (option_to_list o) named) is ∙ or_left (bytes_eq named named) false (own_text named))
 
   -- a way leads to each member
-  leads : (n : ℕ) (first x : List ℕ) → has (members n next first) x ≡ true → (k : ℕ) × Leads k nexts first x
-  unfolding members
+  leads : (n : ℕ) (first x : List ℕ) → has (walk_members n next first) x ≡ true → (k : ℕ) × LeadsInSteps k nexts first x
+  unfolding walk_members
   leads zero first x at = absurd (false≢true at)
   leads (suc n) first x at = by (λ y. leads n y x) (next first) refl at
     where
-      by : ((y : List ℕ) → has (members n next y) x ≡ true → (k : ℕ) × Leads k nexts y x) → (named : Option (List ℕ)) → next first ≡ named → has (first ∷ option_map_or (members n next) named []) x ≡ true
-          → (k : ℕ) × Leads k nexts first x
+      by : ((y : List ℕ) → has (walk_members n next y) x ≡ true → (k : ℕ) × LeadsInSteps k nexts y x) → (named : Option (List ℕ)) → next first ≡ named → has (first ∷ option_map_or (walk_members n next) named []) x ≡ true
+          → (k : ℕ) × LeadsInSteps k nexts first x
       by way None is at = elim (or_cases (bytes_eq x first) false at) [
         | inl here ↦ (zero, sym (same_text x first here))
         | inr later ↦ absurd (false≢true later)
       ]
-      by way (Some y) is at = elim (or_cases (bytes_eq x first) (has (members n next y) x) at) [
+      by way (Some y) is at = elim (or_cases (bytes_eq x first) (has (walk_members n next y) x) at) [
         | inl here ↦ (zero, sym (same_text x first here))
         | inr later ↦ let rest = way y later in (suc rest.0, (y, names first y is, rest.1))
       ]
 
   -- if each way ends, no member is there twice
-  members-single : (n : ℕ) (first : List ℕ) → AllEnd nexts → NoDouble (members n next first)
-  unfolding members
+  members-single : (n : ℕ) (first : List ℕ) → AllEnd nexts → NoDouble (walk_members n next first)
+  unfolding walk_members
   members-single zero first all = tt
   members-single (suc n) first all = by (λ y. members-single n y all) (next first) refl
     where
-      by : ((y : List ℕ) → NoDouble (members n next y)) → (named : Option (List ℕ)) → next first ≡ named → NoDouble (first ∷ option_map_or (members n next) named [])
+      by : ((y : List ℕ) → NoDouble (walk_members n next y)) → (named : Option (List ℕ)) → next first ≡ named → NoDouble (first ∷ option_map_or (walk_members n next) named [])
       by rest None is = (refl, tt)
       by rest (Some y) is = (
-        false_from_ne_true (has (members n next y) first) (λ at.
+        false_from_ne_true (has (walk_members n next y) first) (λ at.
             let way = leads n y first at in
             never_returns nexts way.0 first all (y, names first y is, way.1)),
         rest y,
@@ -138,7 +138,7 @@ module _ (next : Next) where
     levels-none (suc n) = levels-none n
 
     -- each level has at most one
-    onward_one : (lei : List ℕ) → (o : Option (List ℕ)) × (onward nexts own lei ++ [] ≡ option_to_list o)
+    onward_one : (lei : List ℕ) → (o : Option (List ℕ)) × (onward_leis nexts own lei ++ [] ≡ option_to_list o)
     unfolding nexts
     onward_one lei = by (bytes_eq lei own) (next lei)
       where
@@ -170,40 +170,40 @@ module _ (next : Next) where
         by (Some y) = refl
 
     -- without the entity's own LEI they are the members
-    levels-members : (n : ℕ) (first : List ℕ) → has (members n next first) own ≡ false
-        → levels n nexts own (first ∷ []) ≡ members n next first
-    unfolding levels members
+    levels-members : (n : ℕ) (first : List ℕ) → has (walk_members n next first) own ≡ false
+        → levels n nexts own (first ∷ []) ≡ walk_members n next first
+    unfolding levels walk_members
     levels-members zero first without = refl
     levels-members (suc n) first without = by (levels-members n) (next first) refl without
       where
-        by : ((y : List ℕ) → has (members n next y) own ≡ false → levels n nexts own (y ∷ []) ≡ members n next y) → (named : Option (List ℕ)) → next first ≡ named → has (first ∷ option_map_or (members n next) named []) own ≡ false
-            → levels (suc n) nexts own (first ∷ []) ≡ first ∷ option_map_or (members n next) named []
+        by : ((y : List ℕ) → has (walk_members n next y) own ≡ false → levels n nexts own (y ∷ []) ≡ walk_members n next y) → (named : Option (List ℕ)) → next first ≡ named → has (first ∷ option_map_or (walk_members n next) named []) own ≡ false
+            → levels (suc n) nexts own (first ∷ []) ≡ first ∷ option_map_or (walk_members n next) named []
         by rest None is without =
             levels-next n first None is (or_parts (bytes_eq own first) false without).0 ∙ ap (λ l. first ∷ l) (levels-none n)
         by rest (Some y) is without =
-            let parts = or_parts (bytes_eq own first) (has (members n next y) own) without in
+            let parts = or_parts (bytes_eq own first) (has (walk_members n next y) own) without in
             levels-next n first (Some y) is parts.0 ∙ ap (λ l. first ∷ l) (rest y parts.1)
 
     -- if the members have the own LEI, the levels have it
-    levels-meet : (n : ℕ) (first : List ℕ) → has (members n next first) own ≡ true → has (levels n nexts own (first ∷ [])) own ≡ true
-    unfolding levels members
+    levels-meet : (n : ℕ) (first : List ℕ) → has (walk_members n next first) own ≡ true → has (levels n nexts own (first ∷ [])) own ≡ true
+    unfolding levels walk_members
     levels-meet zero first at = absurd (false≢true at)
     levels-meet (suc n) first at = elim (cases_Bool (bytes_eq own first)) [
-      | inl is ↦ or_left (bytes_eq own first) (has (levels n nexts own (onward nexts own first ++ [])) own) is
+      | inl is ↦ or_left (bytes_eq own first) (has (levels n nexts own (onward_leis nexts own first ++ [])) own) is
       | inr other ↦ by (levels-meet n) (next first) refl other at
     ]
       where
-        by : ((y : List ℕ) → has (members n next y) own ≡ true → has (levels n nexts own (y ∷ [])) own ≡ true) → (named : Option (List ℕ)) → next first ≡ named → bytes_eq own first ≡ false
-            → has (first ∷ option_map_or (members n next) named []) own ≡ true → has (levels (suc n) nexts own (first ∷ [])) own ≡ true
+        by : ((y : List ℕ) → has (walk_members n next y) own ≡ true → has (levels n nexts own (y ∷ [])) own ≡ true) → (named : Option (List ℕ)) → next first ≡ named → bytes_eq own first ≡ false
+            → has (first ∷ option_map_or (walk_members n next) named []) own ≡ true → has (levels (suc n) nexts own (first ∷ [])) own ≡ true
         by rest None is other at = absurd (false≢true (sym (ap (λ b. b || false) other) ∙ at))
         by rest (Some y) is other at =
             ap (λ l. has l own) (levels-next n first (Some y) is other)
             ∙ or_right (bytes_eq own first) (has (levels n nexts own (y ∷ [])) own)
-            (rest y (sym (ap (λ b. b || has (members n next y) own) other) ∙ at))
+            (rest y (sym (ap (λ b. b || has (walk_members n next y) own) other) ∙ at))
 
     -- ---- the results of both walks
 
-    meets-so : (first : List ℕ) → has (members 201 next first) own ≡ true → spread_out nexts own (first ∷ []) ≡ Walked.Meets
+    meets-so : (first : List ℕ) → has (walk_members 201 next first) own ≡ true → spread_out nexts own (first ∷ []) ≡ Walked.Meets
     meets-so first at =
         let met = levels-meet 201 first at in
         let fewer = once-fewer (own ∷ []) (levels 201 nexts own (first ∷ [])) own
@@ -212,18 +212,18 @@ module _ (next : Next) where
         let narrow = le-ltb 200 (length (others 201 nexts own (first ∷ []))) (omega arith) in
         λ i. cond (narrow i) Walked.Long (cond (met i) Walked.Meets Walked.Ends)
 
-    same-else : (first : List ℕ) → AllEnd nexts → has (members 201 next first) own ≡ false
-        → spread_out nexts own (first ∷ []) ≡ walked next own first
+    same-else : (first : List ℕ) → AllEnd nexts → has (walk_members 201 next first) own ≡ false
+        → spread_out nexts own (first ∷ []) ≡ walk_end next own first
     same-else first all without =
         let levels_are = levels-members 201 first without in
-        let single = once-all (own ∷ []) (members 201 next first) (members-single 201 first all) (λ x at.
+        let single = once-all (own ∷ []) (walk_members 201 next first) (members-single 201 first all) (λ x at.
         false_from_ne_true (has (own ∷ []) x) (λ is. elim (or_cases (bytes_eq x own) false is) [
-          | inl same ↦ false≢true (sym without ∙ subst (λ z. has (members 201 next first) z ≡ true) (same_text x own same) at)
+          | inl same ↦ false≢true (sym without ∙ subst (λ z. has (walk_members 201 next first) z ≡ true) (same_text x own same) at)
           | inr never ↦ false≢true never
         ])) in
-        let count : is_wide nexts own (first ∷ []) ≡ is_long next first =
+        let count : has_wide_levels nexts own (first ∷ []) ≡ is_long next first =
         ap (λ l. nat_lt 200 (length (each_once (own ∷ []) l))) levels_are
-        ∙ (ap (λ l. nat_lt 200 (length l)) single ∙ tests (length (members 201 next first)) (members-length 201 first)) in
+        ∙ (ap (λ l. nat_lt 200 (length l)) single ∙ tests (length (walk_members 201 next first)) (members-length 201 first)) in
         let back : is_back nexts own (first ∷ []) ≡ false = ap (λ l. has l own) levels_are ∙ without in
         let unmet : is_met next own first ≡ false = false_from_ne_true (is_met next own first) (λ at.
         false≢true (sym without ∙ members-more 200 first own at)) in
@@ -238,9 +238,9 @@ module _ (next : Next) where
 
 pub single-levels : (next : Next) (own first : List ℕ) → AllEnd (λ lei. option_to_list (next lei))
     → spread_out (λ lei. option_to_list (next lei)) own (first ∷ [])
-    ≡ cond (has (members 201 next first) own) Walked.Meets (walked next own first)
+    ≡ cond (has (walk_members 201 next first) own) Walked.Meets (walk_end next own first)
 unfolding nexts
-single-levels next own first all = elim (cases_Bool (has (members 201 next first) own)) [
-  | inl at ↦ meets-so next own first at ∙ sym (cond-true (has (members 201 next first) own) Walked.Meets (walked next own first) at)
-  | inr without ↦ same-else next own first all without ∙ sym (cond-false (has (members 201 next first) own) Walked.Meets (walked next own first) without)
+single-levels next own first all = elim (cases_Bool (has (walk_members 201 next first) own)) [
+  | inl at ↦ meets-so next own first at ∙ sym (cond-true (has (walk_members 201 next first) own) Walked.Meets (walk_end next own first) at)
+  | inr without ↦ same-else next own first all without ∙ sym (cond-false (has (walk_members 201 next first) own) Walked.Meets (walk_end next own first) without)
 ]

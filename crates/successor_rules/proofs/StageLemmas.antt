@@ -10,7 +10,7 @@ use Rattle.std.proofs.lemmas.List.Folds.{find-append}
 use Rattle.lei_records.specs.declared.view.CellKey.{CellKey}
 use Rattle.successor_rules.specs.declared.walks.Walked.{Walked}
 use Rattle.successor_rules.specs.Chains.{Nexts}
-use Rattle.successor_rules.specs.Levels.{SeenNexts, each_once, first_lacking, held_nexts, is_back, is_wide, known_nexts, lacks_nexts, levels, next_level, onward, others, reached, spread_over}
+use Rattle.successor_rules.specs.Levels.{SeenNexts, each_once, first_lacking, has_wide_levels, held_nexts, is_back, known_nexts, lacks_nexts, levels, next_level, onward_leis, others, reachable, spread_over}
 use Rattle.successor_rules.specs.Walks.{unless_lacking}
 use Rattle.successor_rules.proofs.LevelLemmas.{has, has-append, has-at, next-append, once-append, once-has}
 use Rattle.successor_rules.proofs.RiseLemmas.{Begins, begins_both, begins_length, begins_on, gathered, gathered-begins, levels-has, others-begin, others-next}
@@ -56,16 +56,16 @@ module _ (nexts : Nexts) (own : List ℕ) (first : List (List ℕ)) where
 
   -- one more is looked up
   gathered-push : (leis : List (List ℕ)) (lei : List ℕ)
-      → gathered nexts own first (leis ++ lei ∷ []) ≡ joined own (gathered nexts own first leis) (onward nexts own lei)
+      → gathered nexts own first (leis ++ lei ∷ []) ≡ joined own (gathered nexts own first leis) (onward_leis nexts own lei)
   gathered-push leis lei =
       ap (λ l. each_once (own ∷ []) (first ++ l)) (next-append nexts own leis (lei ∷ [])
-      ∙ ap (λ l. next_level nexts own leis ++ l) (append-nil (onward nexts own lei)))
-      ∙ (ap (each_once (own ∷ [])) (sym (append_assoc first (next_level nexts own leis) (onward nexts own lei)))
-      ∙ once-append (own ∷ []) (first ++ next_level nexts own leis) (onward nexts own lei))
+      ∙ ap (λ l. next_level nexts own leis ++ l) (append-nil (onward_leis nexts own lei)))
+      ∙ (ap (each_once (own ∷ [])) (sym (append_assoc first (next_level nexts own leis) (onward_leis nexts own lei)))
+      ∙ once-append (own ∷ []) (first ++ next_level nexts own leis) (onward_leis nexts own lei))
 
   module _ (i : ℕ) (found : List (List ℕ)) (lei : List ℕ) (stage : Stage i found) (less : i < length found)
       (is : lei ≡ get_or found i []) where
-    pub names_all : onward nexts own lei ≡ nexts lei
+    pub names_all : onward_leis nexts own lei ≡ nexts lei
     names_all =
         let at : has found lei ≡ true = subst (λ l. has found l ≡ true) (sym is) (has-at found i [] less) in
         let other = not_own own (first ++ next_level nexts own (take i found)) lei (subst (λ l. has l lei ≡ true) stage.all at) in
@@ -79,7 +79,7 @@ module _ (nexts : Nexts) (own : List ℕ) (first : List (List ℕ)) where
     joined-gathered : joined own found (nexts lei) ≡ gathered nexts own first (take i found ++ lei ∷ [])
     joined-gathered =
         ap (joined own found) (sym names_all)
-        ∙ (ap (λ l. joined own l (onward nexts own lei)) stage.all ∙ sym (gathered-push (take i found) lei))
+        ∙ (ap (λ l. joined own l (onward_leis nexts own lei)) stage.all ∙ sym (gathered-push (take i found) lei))
 
     found-early : Begins found (others (suc i) nexts own first)
     found-early =
@@ -120,13 +120,13 @@ module _ (nexts : Nexts) (own : List ℕ) (first : List (List ℕ)) where
         (others-begin nexts own first (suc (suc i)) 201 (omega arith))
 
     -- too many are found
-    pub wide_then : length found ≤ 200 → 200 < length (joined own found (nexts lei)) → is_wide nexts own first ≡ true
+    pub wide_then : length found ≤ 200 → 200 < length (joined own found (nexts lei)) → has_wide_levels nexts own first ≡ true
     wide_then few many =
         let longer = begins_length (joined own found (nexts lei)) (others 201 nexts own first) (joined-begins few) in
         lt-ltb 200 (length (others 201 nexts own first)) (omega arith)
 
     -- the first 200 of them are the first that are reached
-    pub cut_then : length found ≤ 200 → 200 < length (joined own found (nexts lei)) → take 200 (joined own found (nexts lei)) ≡ reached nexts own first
+    pub cut_then : length found ≤ 200 → 200 < length (joined own found (nexts lei)) → take 200 (joined own found (nexts lei)) ≡ reachable nexts own first
     cut_then few many = front_of (joined own found (nexts lei)) (others 201 nexts own first) (joined-begins few) (omega arith)
 
   first-begins : Begins (joined own [] first) (others 201 nexts own first)
@@ -135,12 +135,12 @@ module _ (nexts : Nexts) (own : List ℕ) (first : List (List ℕ)) where
       subst (λ l. Begins l (others 201 nexts own first)) (ap (each_once (own ∷ [])) (append-nil first))
       (others-begin nexts own first 1 201 (omega arith))
 
-  pub wide_at_once : 200 < length (joined own [] first) → is_wide nexts own first ≡ true
+  pub wide_at_once : 200 < length (joined own [] first) → has_wide_levels nexts own first ≡ true
   wide_at_once many =
       let longer = begins_length (joined own [] first) (others 201 nexts own first) first-begins in
       lt-ltb 200 (length (others 201 nexts own first)) (omega arith)
 
-  pub cut_at_once : 200 < length (joined own [] first) → take 200 (joined own [] first) ≡ reached nexts own first
+  pub cut_at_once : 200 < length (joined own [] first) → take 200 (joined own [] first) ≡ reachable nexts own first
   cut_at_once many = front_of (joined own [] first) (others 201 nexts own first) first-begins (omega arith)
 
   -- ---- all were looked up
@@ -164,10 +164,10 @@ module _ (nexts : Nexts) (own : List ℕ) (first : List (List ℕ)) where
         (subst (λ l. Begins l (others i nexts own first)) (take_all i found whole) stage.early)
         (others-begin nexts own first i n enough))
 
-    pub reached_all : i ≤ 201 → length found ≤ 200 → found ≡ reached nexts own first
+    pub reached_all : i ≤ 201 → length found ≤ 200 → found ≡ reachable nexts own first
     reached_all enough few = sym (ap (take 200) (found_all 201 enough) ∙ take_all 200 found few)
 
-    pub not_wide : i ≤ 200 → length found ≤ 200 → is_wide nexts own first ≡ false
+    pub not_wide : i ≤ 200 → length found ≤ 200 → has_wide_levels nexts own first ≡ false
     not_wide enough few =
         ap (λ l. nat_lt 200 (length l)) (found_all 201 (omega arith)) ∙ le-ltb 200 (length found) few
 
@@ -222,7 +222,7 @@ module _ (answers : SeenNexts) (own : List ℕ) (first : List (List ℕ)) where
         named =
             append_assoc first (next_level (known_nexts answers) own (take i found)) (held_nexts (answers lei))
             ∙ ap (λ l. first ++ l) (ap (λ l. next_level (known_nexts answers) own (take i found) ++ l)
-            (sym (append-nil (onward (known_nexts answers) own lei)
+            (sym (append-nil (onward_leis (known_nexts answers) own lei)
             ∙ names_all (known_nexts answers) own first i found lei asked.stage less is))
             ∙ (sym (next-append (known_nexts answers) own (take i found) (lei ∷ [])) ∙ ap (next_level (known_nexts answers) own) (sym taken)))
 

@@ -8,7 +8,7 @@ use Rattle.lei_records.specs.Cells.{rec_cell, successors_in}
 use Rattle.lei_records.specs.Rows.{Row}
 use Rattle.lei_records.specs.Walks.{successors_of}
 use Rattle.successor_rules.specs.declared.walks.Walked.{Walked}
-use Rattle.successor_rules.specs.Levels.{SeenNexts, first_lacking, held_nexts, is_back, is_wide, known_nexts, lacks_nexts, others, spread_out, spread_over}
+use Rattle.successor_rules.specs.Levels.{SeenNexts, first_lacking, has_wide_levels, held_nexts, is_back, known_nexts, lacks_nexts, others, spread_out, spread_over}
 use Rattle.successor_rules.specs.Successors.{spread, successors_seen}
 use Rattle.successor_rules.specs.Walks.{unless_lacking}
 
@@ -22,7 +22,7 @@ pub spread-whole : (answers : SeenNexts) (key : List ℕ → CellKey) (own : Lis
 spread-whole answers key own first never =
     let lacks : first_lacking answers own first ≡ None =
     none_found (λ lei. lacks_nexts (answers lei)) (others 201 (known_nexts answers) own first) never in
-    ap (λ o. cond (is_wide (known_nexts answers) own first) Walked.Long (unless_lacking key o
+    ap (λ o. cond (has_wide_levels (known_nexts answers) own first) Walked.Long (unless_lacking key o
     (cond (is_back (known_nexts answers) own first) Walked.Meets Walked.Ends))) lacks
 
 -- what a table answers for the successors of each LEI

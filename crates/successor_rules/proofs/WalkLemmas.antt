@@ -12,23 +12,23 @@ use Rattle.lei_records.specs.declared.view.Seen.{Seen}
 use Rattle.lei_records.specs.Cells.{rec_cell, successor_in}
 use Rattle.lei_records.specs.Rows.{Row}
 use Rattle.lei_records.specs.Tables.{Table, row_at, cells_of, seen}
-use Rattle.lei_records.specs.Walks.{Next, members, successor_of}
+use Rattle.lei_records.specs.Walks.{Next, successor_of, walk_members}
 use Rattle.successor_rules.specs.declared.walks.Walked.{Walked}
 use Rattle.successor_rules.specs.Chains.{AllEnd, EndsClear, IsTurned, Nexts}
-use Rattle.successor_rules.specs.Successors.{named, successor_seen, walk}
-use Rattle.successor_rules.specs.Walks.{SeenNext, held, is_missing, known, unless_lacking, walked}
+use Rattle.successor_rules.specs.Successors.{seen_successor, successor_seen, walk}
+use Rattle.successor_rules.specs.Walks.{SeenNext, held_lei, is_unknown, known_next, unless_lacking, walk_end}
 use Rattle.successor_rules.proofs.ChainLemmas.{keeps_ends}
 
 -- ---- the same for any number of members
 
 abbrev met_in : ℕ → Next → List ℕ → List ℕ → Bool
-met_in n next start first = list_any (bytes_eq start) (members n next first)
+met_in n next start first = list_any (bytes_eq start) (walk_members n next first)
 
 abbrev long_in : ℕ → Next → List ℕ → Bool
-long_in n next first = length (members (suc n) next first) == suc n
+long_in n next first = length (walk_members (suc n) next first) == suc n
 
 abbrev lacking_in : ℕ → SeenNext → List ℕ → Option (List ℕ)
-lacking_in n answers first = find (λ lei. is_missing (answers lei)) (members n (known answers) first)
+lacking_in n answers first = find (λ lei. is_unknown (answers lei)) (walk_members n (known_next answers) first)
 
 abbrev pub walked_in : ℕ → Next → List ℕ → List ℕ → Walked
 walked_in n next start first =
@@ -36,16 +36,16 @@ walked_in n next start first =
 
 abbrev pub walk_in : ℕ → SeenNext → (List ℕ → CellKey) → List ℕ → List ℕ → Walked
 walk_in n answers key start first =
-    if met_in n (known answers) start first then Walked.Meets
-    else unless_lacking key (lacking_in n answers first) (if long_in n (known answers) first then Walked.Long else Walked.Ends)
+    if met_in n (known_next answers) start first then Walked.Meets
+    else unless_lacking key (lacking_in n answers first) (if long_in n (known_next answers) first then Walked.Long else Walked.Ends)
 
 -- ---- the first member and the others
 
 met_in-suc : (n : ℕ) (next : Next) (start first : List ℕ) (named : Option (List ℕ)) → next first ≡ named
     → met_in (suc n) next start first ≡ (bytes_eq start first || option_map_or (met_in n next start) named false)
-unfolding members
-met_in-suc n next start first None is = ap (λ o. list_any (bytes_eq start) (first ∷ option_map_or (members n next) o [])) is
-met_in-suc n next start first (Some lei) is = ap (λ o. list_any (bytes_eq start) (first ∷ option_map_or (members n next) o [])) is
+unfolding walk_members
+met_in-suc n next start first None is = ap (λ o. list_any (bytes_eq start) (first ∷ option_map_or (walk_members n next) o [])) is
+met_in-suc n next start first (Some lei) is = ap (λ o. list_any (bytes_eq start) (first ∷ option_map_or (walk_members n next) o [])) is
 
 -- one more on both sides
 also_more : (a b : ℕ) → (suc a == suc b) ≡ (a == b)
@@ -56,25 +56,25 @@ one_of_more n = eqb-suc-suc 0 (suc n) ∙ eqb-zero-suc n
 
 long_in-suc : (n : ℕ) (next : Next) (first : List ℕ) (named : Option (List ℕ)) → next first ≡ named
     → long_in (suc n) next first ≡ option_map_or (long_in n next) named false
-unfolding members
+unfolding walk_members
 long_in-suc n next first None is =
-    ap (λ o. length (first ∷ option_map_or (members (suc n) next) o []) == suc (suc n)) is ∙ one_of_more n
+    ap (λ o. length (first ∷ option_map_or (walk_members (suc n) next) o []) == suc (suc n)) is ∙ one_of_more n
 long_in-suc n next first (Some lei) is =
-    ap (λ o. length (first ∷ option_map_or (members (suc n) next) o []) == suc (suc n)) is
-    ∙ also_more (length (members (suc n) next lei)) (suc n)
+    ap (λ o. length (first ∷ option_map_or (walk_members (suc n) next) o []) == suc (suc n)) is
+    ∙ also_more (length (walk_members (suc n) next lei)) (suc n)
 
 long_in-zero : (next : Next) (first : List ℕ) (named : Option (List ℕ)) → next first ≡ named → long_in zero next first ≡ true
-unfolding members
-long_in-zero next first None is = ap (λ o. length (first ∷ option_map_or (members zero next) o []) == 1) is
-long_in-zero next first (Some lei) is = ap (λ o. length (first ∷ option_map_or (members zero next) o []) == 1) is
+unfolding walk_members
+long_in-zero next first None is = ap (λ o. length (first ∷ option_map_or (walk_members zero next) o []) == 1) is
+long_in-zero next first (Some lei) is = ap (λ o. length (first ∷ option_map_or (walk_members zero next) o []) == 1) is
 
-lacking_in-suc : (n : ℕ) (answers : SeenNext) (first : List ℕ) (named : Option (List ℕ)) → known answers first ≡ named
-    → lacking_in (suc n) answers first ≡ cond (is_missing (answers first)) (Some first) (option_map_or (lacking_in n answers) named None)
-unfolding members
+lacking_in-suc : (n : ℕ) (answers : SeenNext) (first : List ℕ) (named : Option (List ℕ)) → known_next answers first ≡ named
+    → lacking_in (suc n) answers first ≡ cond (is_unknown (answers first)) (Some first) (option_map_or (lacking_in n answers) named None)
+unfolding walk_members
 lacking_in-suc n answers first None is =
-    ap (λ o. cond (is_missing (answers first)) (Some first) (find (λ lei. is_missing (answers lei)) (option_map_or (members n (known answers)) o []))) is
+    ap (λ o. cond (is_unknown (answers first)) (Some first) (find (λ lei. is_unknown (answers lei)) (option_map_or (walk_members n (known_next answers)) o []))) is
 lacking_in-suc n answers first (Some lei) is =
-    ap (λ o. cond (is_missing (answers first)) (Some first) (find (λ lei. is_missing (answers lei)) (option_map_or (members n (known answers)) o []))) is
+    ap (λ o. cond (is_unknown (answers first)) (Some first) (find (λ lei. is_unknown (answers lei)) (option_map_or (walk_members n (known_next answers)) o []))) is
 
 -- ---- one step over a view
 
@@ -86,45 +86,45 @@ pub walk_in-meets : (n : ℕ) (answers : SeenNext) (key : List ℕ → CellKey) 
     → walk_in (suc n) answers key start first ≡ Walked.Meets
 unfolding shape
 walk_in-meets n answers key start first is =
-    ap (λ met. shape key met (lacking_in (suc n) answers first) (long_in (suc n) (known answers) first))
-    (met_in-suc n (known answers) start first (known answers first) refl
-    ∙ ap (λ b. b || option_map_or (met_in n (known answers) start) (known answers first) false) is)
+    ap (λ met. shape key met (lacking_in (suc n) answers first) (long_in (suc n) (known_next answers) first))
+    (met_in-suc n (known_next answers) start first (known_next answers first) refl
+    ∙ ap (λ b. b || option_map_or (met_in n (known_next answers) start) (known_next answers first) false) is)
 
 pub walk_in-next : (n : ℕ) (answers : SeenNext) (key : List ℕ → CellKey) (start first lei : List ℕ) → bytes_eq start first ≡ false
     → answers first ≡ Seen.Held lei → walk_in (suc n) answers key start first ≡ walk_in n answers key start lei
 unfolding shape
 walk_in-next n answers key start first lei other is =
-    let met : met_in (suc n) (known answers) start first ≡ met_in n (known answers) start lei =
-    met_in-suc n (known answers) start first (Some lei) (ap held is) ∙ ap (λ b. b || met_in n (known answers) start lei) other in
+    let met : met_in (suc n) (known_next answers) start first ≡ met_in n (known_next answers) start lei =
+    met_in-suc n (known_next answers) start first (Some lei) (ap held_lei is) ∙ ap (λ b. b || met_in n (known_next answers) start lei) other in
     let lacks : lacking_in (suc n) answers first ≡ lacking_in n answers lei =
-    lacking_in-suc n answers first (Some lei) (ap held is) ∙ ap (λ s. cond (is_missing s) (Some first) (lacking_in n answers lei)) is in
-    let long : long_in (suc n) (known answers) first ≡ long_in n (known answers) lei = long_in-suc n (known answers) first (Some lei) (ap held is) in
+    lacking_in-suc n answers first (Some lei) (ap held_lei is) ∙ ap (λ s. cond (is_unknown s) (Some first) (lacking_in n answers lei)) is in
+    let long : long_in (suc n) (known_next answers) first ≡ long_in n (known_next answers) lei = long_in-suc n (known_next answers) first (Some lei) (ap held_lei is) in
     λ i. shape key (met i) (lacks i) (long i)
 
 pub walk_in-ends : (n : ℕ) (answers : SeenNext) (key : List ℕ → CellKey) (start first : List ℕ) → bytes_eq start first ≡ false
     → answers first ≡ Seen.Empty → walk_in (suc n) answers key start first ≡ Walked.Ends
 unfolding shape
 walk_in-ends n answers key start first other is =
-    let met : met_in (suc n) (known answers) start first ≡ false =
-    met_in-suc n (known answers) start first None (ap held is) ∙ ap (λ b. b || false) other in
+    let met : met_in (suc n) (known_next answers) start first ≡ false =
+    met_in-suc n (known_next answers) start first None (ap held_lei is) ∙ ap (λ b. b || false) other in
     let lacks : lacking_in (suc n) answers first ≡ None =
-    lacking_in-suc n answers first None (ap held is) ∙ ap (λ s. cond (is_missing s) (Some first) None) is in
-    let long : long_in (suc n) (known answers) first ≡ false = long_in-suc n (known answers) first None (ap held is) in
+    lacking_in-suc n answers first None (ap held_lei is) ∙ ap (λ s. cond (is_unknown s) (Some first) None) is in
+    let long : long_in (suc n) (known_next answers) first ≡ false = long_in-suc n (known_next answers) first None (ap held_lei is) in
     λ i. shape key (met i) (lacks i) (long i)
 
 pub walk_in-lacks : (n : ℕ) (answers : SeenNext) (key : List ℕ → CellKey) (start first : List ℕ) → bytes_eq start first ≡ false
     → answers first ≡ Seen.Missing → walk_in (suc n) answers key start first ≡ Walked.Missing (key first)
 unfolding shape
 walk_in-lacks n answers key start first other is =
-    let met : met_in (suc n) (known answers) start first ≡ false =
-    met_in-suc n (known answers) start first None (ap held is) ∙ ap (λ b. b || false) other in
+    let met : met_in (suc n) (known_next answers) start first ≡ false =
+    met_in-suc n (known_next answers) start first None (ap held_lei is) ∙ ap (λ b. b || false) other in
     let lacks : lacking_in (suc n) answers first ≡ Some first =
-    lacking_in-suc n answers first None (ap held is) ∙ ap (λ s. cond (is_missing s) (Some first) None) is in
-    λ i. shape key (met i) (lacks i) (long_in (suc n) (known answers) first)
+    lacking_in-suc n answers first None (ap held_lei is) ∙ ap (λ s. cond (is_unknown s) (Some first) None) is in
+    λ i. shape key (met i) (lacks i) (long_in (suc n) (known_next answers) first)
 
 pub walk_in-zero : (answers : SeenNext) (key : List ℕ → CellKey) (start first : List ℕ) → walk_in zero answers key start first ≡ Walked.Long
-unfolding members shape
-walk_in-zero answers key start first = ap (shape key false None) (long_in-zero (known answers) first (known answers first) refl)
+unfolding walk_members shape
+walk_in-zero answers key start first = ap (shape key false None) (long_in-zero (known_next answers) first (known_next answers first) refl)
 
 -- ---- the same if some of the 200 members were looked up
 
@@ -161,23 +161,23 @@ none_found p (x ∷ xs) never = ap (λ b. cond b (Some x) (find p xs)) (never x)
 abbrev seen_next : Table → SeenNext
 seen_next table lei = successor_seen ((cells_of table).record_cell lei)
 
-is_known : (o : Option (List ℕ)) → (held (named o) ≡ o) × (is_missing (named o) ≡ false)
+is_known : (o : Option (List ℕ)) → (held_lei (seen_successor o) ≡ o) × (is_unknown (seen_successor o) ≡ false)
 is_known None = (refl, refl)
 is_known (Some lei) = (refl, refl)
 
 row_is_known : (row : Option Row)
-    → (held (successor_seen (seen (option_map rec_cell row))) ≡ option_and_then successor_in row)
-    × (is_missing (successor_seen (seen (option_map rec_cell row))) ≡ false)
+    → (held_lei (successor_seen (seen (option_map rec_cell row))) ≡ option_and_then successor_in row)
+    × (is_unknown (successor_seen (seen (option_map rec_cell row))) ≡ false)
 row_is_known None = (refl, refl)
 row_is_known (Some row) = is_known (successor_in row)
 
 -- the walk over a table is that of its successors
-pub walk-over_table : (table : Table) (start first : List ℕ) → walk (cells_of table) start first ≡ walked (successor_of table) start first
+pub walk-over_table : (table : Table) (start first : List ℕ) → walk (cells_of table) start first ≡ walk_end (successor_of table) start first
 unfolding shape
 walk-over_table table start first =
-    let same : known (seen_next table) ≡ successor_of table = λ i lei. (row_is_known (row_at table lei)).0 i in
+    let same : known_next (seen_next table) ≡ successor_of table = λ i lei. (row_is_known (row_at table lei)).0 i in
     let lacks : lacking_in 200 (seen_next table) first ≡ None =
-    none_found (λ lei. is_missing (seen_next table lei)) (members 200 (known (seen_next table)) first) (λ lei. (row_is_known (row_at table lei)).1) in
+    none_found (λ lei. is_unknown (seen_next table lei)) (walk_members 200 (known_next (seen_next table)) first) (λ lei. (row_is_known (row_at table lei)).1) in
     λ i. shape CellKey.Rec (met_in 200 (same i) start first) (lacks i) (long_in 200 (same i) first)
 
 -- ---- a walk that ends meets its start nowhere
@@ -199,7 +199,7 @@ walked_in-next n next start first lei other is =
     λ i. if met i then Walked.Meets else if long i then Walked.Long else Walked.Ends
 
 walked_in-zero : (next : Next) (start first : List ℕ) → walked_in zero next start first ≡ Walked.Long
-unfolding members
+unfolding walk_members
 walked_in-zero next start first = ap (λ long. if long then Walked.Long else Walked.Ends) (long_in-zero next first (next first) refl)
 
 -- the start differs from each code that the walk goes through
@@ -232,7 +232,7 @@ ends_clear (suc n) next start first is =
     ] refl
 
 pub ended_walk_keeps_ends : (next : Next) (after : Nexts) (start first : List ℕ) → AllEnd (λ lei. option_to_list (next lei))
-    → IsTurned (λ lei. option_to_list (next lei)) after start (first ∷ []) → walked next start first ≡ Walked.Ends → AllEnd after
+    → IsTurned (λ lei. option_to_list (next lei)) after start (first ∷ []) → walk_end next start first ≡ Walked.Ends → AllEnd after
 unfolding nexts
 ended_walk_keeps_ends next after start first all turned is =
     keeps_ends (nexts next) after start (first ∷ []) 200 all turned (λ target at.

@@ -17,9 +17,9 @@ abbrev pub AllEnd : Nexts → Type 0
 AllEnd nexts = (lei : Lei) → (n : ℕ) × EndsIn n nexts lei
 
 -- A way with this many steps leads from one LEI to the other.
-abbrev pub Leads : ℕ → Nexts → Lei → Lei → Type 0
-Leads zero nexts from to = from ≡ to
-Leads (suc n) nexts from to = (next : Lei) × Contains (nexts from) next × Leads n nexts next to
+abbrev pub LeadsInSteps : ℕ → Nexts → Lei → Lei → Type 0
+LeadsInSteps zero nexts from to = from ≡ to
+LeadsInSteps (suc n) nexts from to = (next : Lei) × Contains (nexts from) next × LeadsInSteps n nexts next to
 
 -- Each way from an LEI ends before this many were met, and none of them is the start.
 abbrev pub EndsClear : ℕ → Nexts → Lei → Lei → Type 0

@@ -13,12 +13,12 @@ use Rattle.successor_rules.specs.Walks.{unless_lacking}
 
 -- The LEIs that an entity's walk goes on to from one that it reached: those that this one names, but none from the
 -- entity's own LEI.
-abbrev pub onward : Nexts → Lei → Lei → List Lei
-onward nexts own lei = if bytes_eq lei own then [] else nexts lei
+abbrev pub onward_leis : Nexts → Lei → Lei → List Lei
+onward_leis nexts own lei = if bytes_eq lei own then [] else nexts lei
 
 -- The next level: all LEIs that the walk goes on to from the members of this one.
 abbrev pub next_level : Nexts → Lei → List Lei → List Lei
-next_level nexts own level = flat_map (onward nexts own) level
+next_level nexts own level = flat_map (onward_leis nexts own) level
 
 -- This many levels, one after another, starting with the first, which is what the entity itself names.
 unfoldable pub levels : ℕ → Nexts → Lei → List Lei → List Lei
@@ -37,12 +37,12 @@ others n nexts own first = each_once (own ∷ []) (levels n nexts own first)
 
 -- The first 200 of the different LEIs of levels 1 to 201 other than the entity's own. What these name decides the
 -- result of the walk.
-abbrev pub reached : Nexts → Lei → List Lei → List Lei
-reached nexts own first = take 200 (others 201 nexts own first)
+abbrev pub reachable : Nexts → Lei → List Lei → List Lei
+reachable nexts own first = take 200 (others 201 nexts own first)
 
 -- Levels 1 to 201 have more than 200 different LEIs other than the entity's own.
-abbrev pub is_wide : Nexts → Lei → List Lei → Bool
-is_wide nexts own first = nat_lt 200 (length (others 201 nexts own first))
+abbrev pub has_wide_levels : Nexts → Lei → List Lei → Bool
+has_wide_levels nexts own first = nat_lt 200 (length (others 201 nexts own first))
 
 -- The entity's own LEI is among levels 1 to 201.
 abbrev pub is_back : Nexts → Lei → List Lei → Bool
@@ -52,7 +52,7 @@ is_back nexts own first = is_member bytes_eq (levels 201 nexts own first) own
 -- or it ends.
 abbrev pub spread_out : Nexts → Lei → List Lei → Walked
 spread_out nexts own first =
-    if is_wide nexts own first then Walked.Long else if is_back nexts own first then Walked.Meets else Walked.Ends
+    if has_wide_levels nexts own first then Walked.Long else if is_back nexts own first then Walked.Meets else Walked.Ends
 
 -- ---- by what a view answers
 
@@ -85,7 +85,7 @@ first_lacking answers own first = find (λ lei. lacks_nexts (answers lei)) (othe
 -- ends.
 abbrev pub spread_over : SeenNexts → (Lei → CellKey) → Lei → List Lei → Walked
 spread_over answers key own first =
-    if is_wide (known_nexts answers) own first then Walked.Long
+    if has_wide_levels (known_nexts answers) own first then Walked.Long
     else unless_lacking key (first_lacking answers own first)
     (if is_back (known_nexts answers) own first then Walked.Meets else Walked.Ends)
 

@@ -15,13 +15,13 @@ use Rattle.successor_rules.specs.Levels.{spread_over}
 use Rattle.successor_rules.specs.Walks.{walk_over}
 
 -- What a view answers for the successor that a record names.
-abbrev pub named : Option Lei → Seen Lei
-named (Some lei) = Seen.Held lei
-named None = Seen.Empty
+abbrev pub seen_successor : Option Lei → Seen Lei
+seen_successor (Some lei) = Seen.Held lei
+seen_successor None = Seen.Empty
 
 -- The same if the view is asked for the record: none is named if no record is held.
 abbrev pub successor_seen : Seen RecCell → Seen Lei
-successor_seen (Seen.Held cell) = named (slice_get cell.successors 0)
+successor_seen (Seen.Held cell) = seen_successor (slice_get cell.successors 0)
 successor_seen Seen.Empty = Seen.Empty
 successor_seen Seen.Missing = Seen.Missing
 

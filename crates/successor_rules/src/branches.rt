@@ -18,7 +18,8 @@ pub struct SuccessorBranches<'a, V> {
 }
 
 impl<'a, V: View> Branches for SuccessorBranches<'a, V> {
-    ghost answers = { λ branches lei. OverViews.successors_seen ((V.cells branches.view.now).record_cell lei) };
+    ghost answers = { λ branches lei. OverViews.successors_seen
+        ((V.cells branches.view.now).record_cell lei) };
 
     ghost cell = { λ branches lei. CellKey.Rec lei };
 

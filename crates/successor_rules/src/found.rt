@@ -81,7 +81,8 @@ impl Found {
 
     fn add(&mut self, own: &Lei, lei: &Lei) -> bool
         ensures added { OnTrue result (self.new ≡ self.old ++ each_once (own.now ∷ self.old) (lei.now ∷ [])) }
-        ensures full { OnFalse result (200 < length (self.old ++ each_once (own.now ∷ self.old) (lei.now ∷ []))) }
+        ensures full { OnFalse result (200 < length (self.old
+            ++ each_once (own.now ∷ self.old) (lei.now ∷ []))) }
         ensures stays { OnFalse result ((self.new ≡ self.old) × (length self.old ≡ 200)) }
     {
         if lei == own || self.has(lei) {

@@ -6,15 +6,15 @@ ghost use Rattle.std.specs.List.{Contains, IsDistinct};
 ghost use Rattle.std.specs.Set.{is_member};
 ghost use Rattle.std.specs.Str.{bytes_eq};
 ghost use Rattle.lei_records.specs.declared.view.CellKey.{CellKey};
-ghost use Rattle.lei_records.specs.Walks.{Next, members};
+ghost use Rattle.lei_records.specs.Walks.{Next, walk_members};
 ghost use Rattle.successor_rules.specs.declared.walks.Walked.{Walked};
-ghost use Rattle.successor_rules.specs.Chains.{AllEnd, EndsClear, IsTurned, Leads, Nexts};
-ghost use Rattle.successor_rules.specs.Levels.{Agree, SeenNexts, known_nexts, lacks_nexts, levels, others, reached, spread_out, spread_over};
-ghost use Rattle.successor_rules.specs.Walks.{walked};
+ghost use Rattle.successor_rules.specs.Chains.{AllEnd, EndsClear, IsTurned, LeadsInSteps, Nexts};
+ghost use Rattle.successor_rules.specs.Levels.{Agree, SeenNexts, known_nexts, lacks_nexts, levels, others, reachable, spread_out, spread_over};
+ghost use Rattle.successor_rules.specs.Walks.{walk_end};
 
 /// If each way ends, none comes back to where it started.
 pub fn ending_ways_never_return()
-    ensures { (nexts : Nexts) (n : ℕ) (lei : Lei) → AllEnd nexts → Leads (suc n) nexts lei lei → ⊥ }
+    ensures { (nexts : Nexts) (n : ℕ) (lei : Lei) → AllEnd nexts → LeadsInSteps (suc n) nexts lei lei → ⊥ }
 {}
 
 /// If each way ends and one code is changed to name other next ones, each way still ends. The condition is that each
@@ -29,7 +29,7 @@ pub fn clear_ways_keep_ends()
 pub fn ending_walks_keep_ends()
     ensures { (next : Next) (after : Nexts) (start first : Lei) → AllEnd (λ lei. option_to_list (next lei))
         → IsTurned (λ lei. option_to_list (next lei)) after start (first ∷ [])
-        → walked next start first ≡ Walked.Ends → AllEnd after }
+        → walk_end next start first ≡ Walked.Ends → AllEnd after }
 {}
 
 /// The LEIs that are counted in levels are those in the levels except the entity's own, and each is counted once.
@@ -52,7 +52,8 @@ pub fn clear_levels_keep_ends()
 /// The cell is that of an LEI in the levels that the view knows. A view that lacks nothing reports the result of the
 /// walk along its answers.
 pub fn agreeing_views_tell_the_levels()
-    ensures agreeing { (answers : SeenNexts) (nexts : Nexts) (key : Lei → CellKey) (own : Lei) (first : List Lei)
+    ensures agreeing { (answers : SeenNexts) (nexts : Nexts) (key : Lei → CellKey) (own : Lei)
+        (first : List Lei)
         → Agree answers nexts
         → (spread_over answers key own first ≡ spread_out nexts own first)
         ⊎ ((lei : Lei) × (lacks_nexts (answers lei) ≡ true)
@@ -69,17 +70,17 @@ pub fn agreeing_views_tell_the_levels()
 pub fn single_levels_are_chains()
     ensures { (next : Next) (own first : Lei) → AllEnd (λ lei. option_to_list (next lei))
         → spread_out (λ lei. option_to_list (next lei)) own (first ∷ [])
-        ≡ (if is_member bytes_eq (members 201 next first) own then Walked.Meets else walked next own first) }
+        ≡ (if is_member bytes_eq (walk_members 201 next first) own then Walked.Meets else walk_end next own first) }
 {}
 
 /// Let one view answer as another for the first 200 LEIs that the walk by levels reaches, unless it lacks the cell.
 /// Then it reports what the other reports, or the key of such a cell that it lacks.
 pub fn levels_go_by_what_is_reached()
     ensures { (answers more : SeenNexts) (key : Lei → CellKey) (own : Lei) (first : List Lei)
-        → ((lei : Lei) → is_member bytes_eq (reached (known_nexts answers) own first) lei ≡ true
+        → ((lei : Lei) → is_member bytes_eq (reachable (known_nexts answers) own first) lei ≡ true
         → (lacks_nexts (answers lei) ≡ true) ⊎ (answers lei ≡ more lei))
         → (spread_over answers key own first ≡ spread_over more key own first)
         ⊎ ((lei : Lei) × (lacks_nexts (answers lei) ≡ true)
-        × (is_member bytes_eq (reached (known_nexts answers) own first) lei ≡ true)
+        × (is_member bytes_eq (reachable (known_nexts answers) own first) lei ≡ true)
         × (spread_over answers key own first ≡ Walked.Missing (key lei))) }
 {}

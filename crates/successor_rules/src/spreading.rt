@@ -5,7 +5,7 @@ ghost use Rattle.std.specs.Set.{is_member};
 ghost use Rattle.std.specs.Str.{bytes_eq};
 ghost use Rattle.lei_records.specs.declared.view.CellKey.{CellKey};
 ghost use Rattle.successor_rules.specs.declared.walks.Walked.{Walked};
-ghost use Rattle.successor_rules.specs.Levels.{SeenNexts, each_once, held_nexts, known_nexts, lacks_nexts, reached, spread_over};
+ghost use Rattle.successor_rules.specs.Levels.{SeenNexts, each_once, held_nexts, known_nexts, lacks_nexts, reachable, spread_over};
 
 use crate::found::{Found, is_among};
 use crate::walks::Walked;
@@ -55,14 +55,14 @@ pub fn spread_from<B: Branches>(branches: &B, own: &Lei, from: &Successors) -> W
     }
     match lacking {
         Some(lei) => Walked::Missing(branches.key(lei)),
-        None => ended(is_met),
+        None => end_by(is_met),
     }
 }
 
 /// The different LEIs other than `own` that a walk by levels reaches, in the order of the levels. If there are more
 /// than 200, these are the first 200, so a list of 200 may not be complete.
 pub fn reach<B: Branches>(branches: &B, own: &Lei, from: &Successors) -> Found
-    ensures { result ≡ reached (known_nexts (B.answers branches.now)) own.now from.now }
+    ensures { result ≡ reachable (known_nexts (B.answers branches.now)) own.now from.now }
 {
     let mut found = Found::none(*own);
     if !found.add_all(own, from.as_slice()) {
@@ -79,7 +79,7 @@ pub fn reach<B: Branches>(branches: &B, own: &Lei, from: &Successors) -> Found
     found
 }
 
-fn ended(is_met: bool) -> Walked
+fn end_by(is_met: bool) -> Walked
     ensures { result ≡ if is_met then Walked.Meets else Walked.Ends }
 {
     if is_met { Walked::Meets } else { Walked::Ends }
@@ -87,7 +87,8 @@ fn ended(is_met: bool) -> Walked
 
 // Adds the LEIs that are named there, and returns whether there was room for all of them.
 fn add_named(found: &mut Found, own: &Lei, seen: &Seen<Successors>) -> bool
-    ensures added { OnTrue result (found.new ≡ found.old ++ each_once (own.now ∷ found.old) (held_nexts seen.now)) }
+    ensures added { OnTrue result (found.new ≡ found.old
+        ++ each_once (own.now ∷ found.old) (held_nexts seen.now)) }
     ensures full { OnFalse result
         (200 < length (found.old ++ each_once (own.now ∷ found.old) (held_nexts seen.now))) }
     ensures cut { OnFalse result

@@ -4,7 +4,7 @@ ghost use Rattle.lei_records.specs.declared.view.CellKey.{CellKey};
 ghost use Rattle.lei_records.specs.Tables.{Table, cells_of};
 ghost use Rattle.lei_records.specs.Walks.{successor_of};
 ghost use Rattle.successor_rules.specs.Successors;
-ghost use Rattle.successor_rules.specs.Walks.{walked};
+ghost use Rattle.successor_rules.specs.Walks.{walk_end};
 
 use crate::walks::{Chain, Walked, follow};
 use lei_code::Lei;
@@ -34,14 +34,14 @@ fn successor_seen(seen: Seen<RecCell>) -> Seen<Lei>
     ensures { result ≡ Successors.successor_seen seen }
 {
     match seen {
-        Seen::Held(cell) => named(cell.successors.first()),
+        Seen::Held(cell) => seen_successor(cell.successors.first()),
         Seen::Empty => Seen::Empty,
         Seen::Missing => Seen::Missing,
     }
 }
 
-fn named(successor: Option<Lei>) -> Seen<Lei>
-    ensures { result ≡ Successors.named successor }
+fn seen_successor(successor: Option<Lei>) -> Seen<Lei>
+    ensures { result ≡ Successors.seen_successor successor }
 {
     match successor {
         Some(lei) => Seen::Held(lei),
@@ -57,7 +57,7 @@ pub fn walk<V: View>(view: &V, from: &Lei, avoid: &Lei) -> Walked
 
     // Over the cells of a table.
     ensures over_tables { (table : Table) → V.cells view.now ≡ cells_of table
-        → result ≡ walked (successor_of table) avoid.now from.now }
+        → result ≡ walk_end (successor_of table) avoid.now from.now }
 {
     follow(&SuccessorChain { view }, from, avoid)
 }

@@ -29,8 +29,8 @@ abbrev pub AreFronts : {E : Type 0} → List E → List E → List E → Type 0
 AreFronts xs ys whole = IsPrefix xs whole × IsPrefix ys whole
 
 -- The stretch of a member is between two counts of faults.
-abbrev pub IsWithin : {D : Type 0} → ℕ → ℕ → Member D → Type 0
-IsWithin from to t = (from ≤ t.from) × (t.from ≤ t.to) × (t.to ≤ to)
+abbrev pub IsBetweenCounts : {D : Type 0} → ℕ → ℕ → Member D → Type 0
+IsBetweenCounts from to t = (from ≤ t.from) × (t.from ≤ t.to) × (t.to ≤ to)
 
 -- ---- passes and views
 
@@ -119,7 +119,7 @@ module _ {E D : Type 0} where
 
   -- The stretch of each member is between two counts of faults.
   abbrev pub AreBetween : ℕ → ℕ → List (PassView E D) → Type 0
-  AreBetween from to passes = All (λ p. All (IsWithin from to) p.told) passes
+  AreBetween from to passes = All (λ p. All (IsBetweenCounts from to) p.told) passes
 
   -- If each member gets a weight of at most its own stretch, all weights together are at most the stretch from one
   -- count of faults to another.

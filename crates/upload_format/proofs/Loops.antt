@@ -14,12 +14,12 @@ use Rattle.serde_json.specs.View.{view, items_view, members_view}
 use Rattle.serde_json.specs.declared.value.Value.{Value}
 use Rattle.lei_records.specs.declared.fields.Kind.{Kind}
 use Rattle.lei_records.specs.declared.item.RawItem.{RawItem}
-use Rattle.lei_records.specs.Names.{AreRising, names}
-use Rattle.upload_format.specs.Bodies.{behind, fields_of, found, item_of, list_of, member_names}
+use Rattle.lei_records.specs.Names.{NamesRise, names_of_fields}
+use Rattle.upload_format.specs.Bodies.{append_read, list_of, member_names, or_no_upload, raw_item_of, text_members}
 
 -- what was found, followed by what the rest gives
 abbrev pub with_front : {X : Type 0} → List X → Option (List X) → Option (List X)
-with_front front rest = behind (Some front) rest
+with_front front rest = append_read (Some front) rest
 
 -- the last item of the front may be the first of the rest instead
 pub with_front-push : {X : Type 0} (front : List X) (x : X) (rest : Option (List X)) → with_front (front ++ x ∷ []) rest ≡ with_front front (option_map (λ xs. x ∷ xs) rest)
@@ -29,14 +29,14 @@ with_front-push front x (Some rest) = ap Some (append_assoc front (x ∷ []) res
 pub with_front-end : {X : Type 0} (front : List X) → with_front front (Some []) ≡ Some front
 with_front-end front = search (rules, common_steps)
 
-pub some_found : {X : Type 0} (o : Option X) (x : X) → found o ≡ Ok x → o ≡ Some x
+pub some_found : {X : Type 0} (o : Option X) (x : X) → or_no_upload o ≡ Ok x → o ≡ Some x
 some_found None x is = cc
 some_found (Some y) x is = cc
 
 -- the next member is one more pair
-pub fields_step : (front : List (List ℕ × List ℕ)) (name : String Global) (value : Value) (text : List ℕ) (rest : List (String Global × Value)) → found (as_str (view value)) ≡ Ok text
-    → with_front (front ++ (string_bytes name, text) ∷ []) (fields_of (members_view rest)) ≡ with_front front (fields_of (members_view ((name, value) ∷ rest)))
-fields_step front name value text rest is = with_front-push front (string_bytes name, text) (fields_of (members_view rest)) ∙ ap (with_front front) (sym (rw (some_found (as_str (view value)) text is) refl))
+pub fields_step : (front : List (List ℕ × List ℕ)) (name : String Global) (value : Value) (text : List ℕ) (rest : List (String Global × Value)) → or_no_upload (as_str (view value)) ≡ Ok text
+    → with_front (front ++ (string_bytes name, text) ∷ []) (text_members (members_view rest)) ≡ with_front front (text_members (members_view ((name, value) ∷ rest)))
+fields_step front name value text rest is = with_front-push front (string_bytes name, text) (text_members (members_view rest)) ∙ ap (with_front front) (sym (rw (some_found (as_str (view value)) text is) refl))
 
 -- ---- the names of an object's pairs rise, because its keys do
 
@@ -61,38 +61,38 @@ sorted_front (x ∷ xs) ys all = (below_front x xs ys all.0, sorted_front xs ys 
 
 -- the names of the pairs so far, followed by those that are left
 abbrev pub names_with : List (List ℕ × List ℕ) → List (String Global × Value) → List (List ℕ)
-names_with front rest = names front ++ map string_bytes (keys_of rest)
+names_with front rest = names_of_fields front ++ map string_bytes (keys_of rest)
 
 -- the next name becomes one of the front's
 pub names_step : (front : List (List ℕ × List ℕ)) (name : String Global) (value : Value) (text : List ℕ) (rest : List (String Global × Value))
     → names_with (front ++ (string_bytes name, text) ∷ []) rest ≡ names_with front ((name, value) ∷ rest)
 names_step front name value text rest =
     ap (λ ns. ns ++ map string_bytes (keys_of rest)) (map-append (λ field. field.0) front ((string_bytes name, text) ∷ []))
-    ∙ append_assoc (names front) (string_bytes name ∷ []) (map string_bytes (keys_of rest))
+    ∙ append_assoc (names_of_fields front) (string_bytes name ∷ []) (map string_bytes (keys_of rest))
 
 -- so the pairs with the next one rise, if the keys do
 pub rising_step : (es : List (String Global × Value)) (front : List (List ℕ × List ℕ)) (name : String Global) (value : Value) (text : List ℕ) (rest : List (String Global × Value))
     → IsStrictlySortedBy string_cmp (keys_of es) → names_with front ((name, value) ∷ rest) ≡ map string_bytes (keys_of es)
-    → AreRising (front ++ (string_bytes name, text) ∷ [])
+    → NamesRise (front ++ (string_bytes name, text) ∷ [])
 rising_step es front name value text rest ordered is =
     let P : List (List ℕ) → Type 0 = λ ns. IsStrictlySortedBy (slice_cmp nat_cmp) ns in
     let all : P (names_with (front ++ (string_bytes name, text) ∷ []) rest) =
     subst P (sym (names_step front name value text rest ∙ is)) (sorted (keys_of es) ordered) in
-    sorted_front (names (front ++ (string_bytes name, text) ∷ [])) (map string_bytes (keys_of rest)) all
+    sorted_front (names_of_fields (front ++ (string_bytes name, text) ∷ [])) (map string_bytes (keys_of rest)) all
 
 pub list_all-member_names : (test : List ℕ → Bool) (es : List (String Global × Value)) → list_all (λ k. test (string_bytes k)) (keys_of es) ≡ list_all test (member_names (members_view es))
 list_all-member_names test [] = refl
 list_all-member_names test (e ∷ es) = ap (λ b. test (string_bytes e.0) && b) (list_all-member_names test es)
 
 -- the next value is one more item
-pub list_step : (kind : Kind) (front : List RawItem) (value : Value) (item : RawItem) (rest : List Value) → found (item_of kind (view value)) ≡ Ok item
+pub list_step : (kind : Kind) (front : List RawItem) (value : Value) (item : RawItem) (rest : List Value) → or_no_upload (raw_item_of kind (view value)) ≡ Ok item
     → with_front (front ++ item ∷ []) (list_of kind (items_view rest)) ≡ with_front front (list_of kind (items_view (value ∷ rest)))
 list_step kind front value item rest is =
-    with_front-push front item (list_of kind (items_view rest)) ∙ ap (with_front front) (sym (rw (some_found (item_of kind (view value)) item is) refl))
+    with_front-push front item (list_of kind (items_view rest)) ∙ ap (with_front front) (sym (rw (some_found (raw_item_of kind (view value)) item is) refl))
 
 -- ---- the three lists
 
 -- if the first list was read, what follows it follows its items
-pub found_behind : (first : Option (List RawItem)) (items : List RawItem) (list : Option (List RawItem)) → found first ≡ Ok items
-    → found (behind (Some items) list) ≡ found (behind first list)
-found_behind first items list is = ap (λ o. found (behind o list)) (sym (some_found first items is))
+pub found_behind : (first : Option (List RawItem)) (items : List RawItem) (list : Option (List RawItem)) → or_no_upload first ≡ Ok items
+    → or_no_upload (append_read (Some items) list) ≡ or_no_upload (append_read first list)
+found_behind first items list is = ap (λ o. or_no_upload (append_read o list)) (sym (some_found first items is))

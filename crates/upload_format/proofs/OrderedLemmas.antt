@@ -24,21 +24,21 @@ use Rattle.serde_json.specs.Read.{of_json, of_items, of_members, read}
 use Rattle.serde_json.proofs.Views.{get_member-put, get_member-put_other}
 use Rattle.lei_records.specs.declared.fields.Kind.{Kind}
 use Rattle.lei_records.specs.declared.item.RawItem.{RawItem}
-use Rattle.lei_records.specs.Names.{AreRising, names}
-use Rattle.upload_format.specs.Bodies.{fields_of, is_list_name, item_of, items_of, list_name, list_of, listed, member_names, sent, value_of}
-use Rattle.upload_format.specs.Ordered.{AreFields, AreItems, AreLists, list_with, texts_of}
+use Rattle.lei_records.specs.Names.{NamesRise, names_of_fields}
+use Rattle.upload_format.specs.Bodies.{is_list_name, items_under, list_name, list_of, member_names, raw_item, raw_item_of, text_members, upload_items, value_of}
+use Rattle.upload_format.specs.Ordered.{AreFields, AreItems, AreLists, list_with, members_with_texts}
 use Rattle.upload_format.proofs.Loops.{with_front, with_front-end, with_front-push}
 
 -- ---- fields
 
 -- A name that is less than all names of these fields is less than the last one.
 last_name : (own : List ℕ) (fields : List (List ℕ × List ℕ)) (name text : List ℕ)
-    → AllByRecursion (λ k. slice_cmp nat_cmp own k ≡ Less) (names (fields ++ (name, text) ∷ [])) → slice_cmp nat_cmp own name ≡ Less
+    → AllByRecursion (λ k. slice_cmp nat_cmp own k ≡ Less) (names_of_fields (fields ++ (name, text) ∷ [])) → slice_cmp nat_cmp own name ≡ Less
 last_name own [] name text all = all.0
 last_name own (field ∷ fields) name text all = last_name own fields name text all.1
 
-pub put_behind : (fields : List (List ℕ × List ℕ)) (name text : List ℕ) → AreRising (fields ++ (name, text) ∷ [])
-    → put name (string text) (texts_of fields) ≡ texts_of (fields ++ (name, text) ∷ [])
+pub put_behind : (fields : List (List ℕ × List ℕ)) (name text : List ℕ) → NamesRise (fields ++ (name, text) ∷ [])
+    → put name (string text) (members_with_texts fields) ≡ members_with_texts (fields ++ (name, text) ∷ [])
 unfolding IsStrictlySortedBy
 put_behind [] name text rising = refl
 put_behind (field ∷ fields) name text rising =
@@ -51,7 +51,7 @@ put_behind (field ∷ fields) name text rising =
 pub record FieldsSoFar (ms : json.Members) (left : List Token) (fields : List (List ℕ × List ℕ)) : Type 0 where
   pub rest : json.Members
   pub at : InMembers left rest
-  pub value : of_members ms no_members ≡ of_members rest (texts_of fields)
+  pub value : of_members ms no_members ≡ of_members rest (members_with_texts fields)
   pub flat : members_depth rest ≤ 0 → members_depth ms ≤ 0
 
 is_string : (j : json.Json) (text : List ℕ) → Some text ≡ found.as_str j → j ≡ json.string text
@@ -65,13 +65,13 @@ is_string (json.object ms) text is = cc
 -- one more field
 pub fields_more : (ms : json.Members) (left new : List Token) (fields : List (List ℕ × List ℕ)) (name text : List ℕ) (j : json.Json) (rest : json.Members)
     → (so : FieldsSoFar ms left fields) → so.rest ≡ json.member name j rest → Some text ≡ found.as_str j → InMembers new rest
-    → AreRising (fields ++ (name, text) ∷ []) → FieldsSoFar ms new (fields ++ (name, text) ∷ [])
+    → NamesRise (fields ++ (name, text) ∷ []) → FieldsSoFar ms new (fields ++ (name, text) ∷ [])
 fields_more ms left new fields name text j rest so is is_text at rising =
     let here : so.rest ≡ json.member name (json.string text) rest = is ∙ ap (λ v. json.member name v rest) (is_string j text is_text) in
     record {
       rest = rest;
       at = at;
-      value = so.value ∙ ap (λ r. of_members r (texts_of fields)) here ∙ ap (of_members rest) (put_behind fields name text rising);
+      value = so.value ∙ ap (λ r. of_members r (members_with_texts fields)) here ∙ ap (of_members rest) (put_behind fields name text rising);
       flat = λ flat. so.flat (rw here (omega (arith, flat)));
     }
 
@@ -79,15 +79,15 @@ fields_more ms left new fields name text j rest so is is_text at rising =
 pub fields_end : (ms : json.Members) (left : List Token) (fields : List (List ℕ × List ℕ)) → (so : FieldsSoFar ms left fields)
     → so.rest ≡ json.no_members → AreFields ms fields
 fields_end ms left fields so is = record {
-  value = so.value ∙ ap (λ r. of_members r (texts_of fields)) is;
+  value = so.value ∙ ap (λ r. of_members r (members_with_texts fields)) is;
   flat = so.flat (rw is (omega arith));
 }
 
 -- ---- items
 
-fields_of-texts_of : (fields : List (List ℕ × List ℕ)) → fields_of (texts_of fields) ≡ Some fields
-fields_of-texts_of [] = refl
-fields_of-texts_of (field ∷ fields) = rw (fields_of-texts_of fields) refl
+text_members-texts_of : (fields : List (List ℕ × List ℕ)) → text_members (members_with_texts fields) ≡ Some fields
+text_members-texts_of [] = refl
+text_members-texts_of (field ∷ fields) = rw (text_members-texts_of fields) refl
 
 with_nothing : {X : Type 0} (rest : Option (List X)) → with_front [] rest ≡ rest
 with_nothing None = refl
@@ -108,21 +108,21 @@ items_begin kind js left at = record {
   flat = λ flat. flat;
 }
 
-object_of : (ms : json.Members) (fields : List (List ℕ × List ℕ)) → AreFields ms fields → of_json (json.object ms) ≡ Some (object (texts_of fields))
+object_of : (ms : json.Members) (fields : List (List ℕ × List ℕ)) → AreFields ms fields → of_json (json.object ms) ≡ Some (object (members_with_texts fields))
 object_of ms fields are = ap (option_map object) are.value
 
 -- one more item
 pub items_more : (kind : Kind) (js : json.Items) (left new : List Token) (raws : List RawItem) (ms : json.Members) (fields : List (List ℕ × List ℕ)) (j : json.Json) (rest : json.Items)
     → (so : ItemsSoFar kind js left raws) → so.rest ≡ json.item j rest → j ≡ json.object ms → InItems new rest → AreFields ms fields
-    → ItemsSoFar kind js new (raws ++ sent kind fields ∷ [])
+    → ItemsSoFar kind js new (raws ++ raw_item kind fields ∷ [])
 items_more kind js left new raws ms fields j rest so is is_object at are =
     let here : so.rest ≡ json.item (json.object ms) rest = is ∙ ap (λ v. json.item v rest) is_object in
     record {
       rest = rest;
       at = at;
       value = λ others read.
-          (let all = so.value (item (object (texts_of fields)) others) (ap of_items here ∙ (rw (object_of ms fields are, read) refl)) in
-          (all.0, all.1, all.2 ∙ ap (with_front raws) (rw (fields_of-texts_of fields) refl) ∙ sym (with_front-push raws (sent kind fields) (list_of kind others))));
+          (let all = so.value (item (object (members_with_texts fields)) others) (ap of_items here ∙ (rw (object_of ms fields are, read) refl)) in
+          (all.0, all.1, all.2 ∙ ap (with_front raws) (rw (text_members-texts_of fields) refl) ∙ sym (with_front-push raws (raw_item kind fields) (list_of kind others))));
       flat = λ flat. so.flat (rw here (omega (arith, flat, are.flat)));
     }
 
@@ -145,9 +145,9 @@ pub record ListsSoFar (ms : json.Members) (left : List Token) (front middle end 
   pub values : Members
   pub value : of_members ms no_members ≡ of_members rest values
   pub known : list_all is_list_name (member_names values) ≡ true
-  pub records : listed Kind.Record (get_member (list_name Kind.Record) values) ≡ Some front
-  pub relations : listed Kind.Relation (get_member (list_name Kind.Relation) values) ≡ Some middle
-  pub exceptions : listed Kind.Exception (get_member (list_name Kind.Exception) values) ≡ Some end
+  pub records : items_under Kind.Record (get_member (list_name Kind.Record) values) ≡ Some front
+  pub relations : items_under Kind.Relation (get_member (list_name Kind.Relation) values) ≡ Some middle
+  pub exceptions : items_under Kind.Exception (get_member (list_name Kind.Exception) values) ≡ Some end
   pub flat : members_depth rest ≤ 2 → members_depth ms ≤ 2
 
 pub lists_begin : (ms : json.Members) (left : List Token) → InMembers left ms → ListsSoFar ms left [] [] []
@@ -189,26 +189,26 @@ apart x y differ is = true≢false (sym ((bytes_eq-Decides x y).1 is) ∙ differ
 
 -- the list of kind `own` after one more list was read
 list_more : (own kind : Kind) (name : List ℕ) (values : Members) (ds : Items) (raws old : List RawItem) → name ≡ list_name kind
-    → list_of kind ds ≡ Some raws → listed own (get_member (list_name own) values) ≡ Some old
-    → listed own (get_member (list_name own) (put name (array ds) values)) ≡ Some (list_with own kind raws old)
+    → list_of kind ds ≡ Some raws → items_under own (get_member (list_name own) values) ≡ Some old
+    → items_under own (get_member (list_name own) (put name (array ds) values)) ≡ Some (list_with own kind raws old)
 list_more Kind.Record Kind.Record name values ds raws old is read before =
-    rw is (ap (listed Kind.Record) (get_member-put (list_name Kind.Record) (array ds) values) ∙ read)
+    rw is (ap (items_under Kind.Record) (get_member-put (list_name Kind.Record) (array ds) values) ∙ read)
 list_more Kind.Relation Kind.Relation name values ds raws old is read before =
-    rw is (ap (listed Kind.Relation) (get_member-put (list_name Kind.Relation) (array ds) values) ∙ read)
+    rw is (ap (items_under Kind.Relation) (get_member-put (list_name Kind.Relation) (array ds) values) ∙ read)
 list_more Kind.Exception Kind.Exception name values ds raws old is read before =
-    rw is (ap (listed Kind.Exception) (get_member-put (list_name Kind.Exception) (array ds) values) ∙ read)
+    rw is (ap (items_under Kind.Exception) (get_member-put (list_name Kind.Exception) (array ds) values) ∙ read)
 list_more Kind.Record Kind.Relation name values ds raws old is read before =
-    rw is (ap (listed Kind.Record) (get_member-put_other (list_name Kind.Record) (list_name Kind.Relation) (array ds) values (apart _ _ refl)) ∙ before)
+    rw is (ap (items_under Kind.Record) (get_member-put_other (list_name Kind.Record) (list_name Kind.Relation) (array ds) values (apart _ _ refl)) ∙ before)
 list_more Kind.Record Kind.Exception name values ds raws old is read before =
-    rw is (ap (listed Kind.Record) (get_member-put_other (list_name Kind.Record) (list_name Kind.Exception) (array ds) values (apart _ _ refl)) ∙ before)
+    rw is (ap (items_under Kind.Record) (get_member-put_other (list_name Kind.Record) (list_name Kind.Exception) (array ds) values (apart _ _ refl)) ∙ before)
 list_more Kind.Relation Kind.Record name values ds raws old is read before =
-    rw is (ap (listed Kind.Relation) (get_member-put_other (list_name Kind.Relation) (list_name Kind.Record) (array ds) values (apart _ _ refl)) ∙ before)
+    rw is (ap (items_under Kind.Relation) (get_member-put_other (list_name Kind.Relation) (list_name Kind.Record) (array ds) values (apart _ _ refl)) ∙ before)
 list_more Kind.Relation Kind.Exception name values ds raws old is read before =
-    rw is (ap (listed Kind.Relation) (get_member-put_other (list_name Kind.Relation) (list_name Kind.Exception) (array ds) values (apart _ _ refl)) ∙ before)
+    rw is (ap (items_under Kind.Relation) (get_member-put_other (list_name Kind.Relation) (list_name Kind.Exception) (array ds) values (apart _ _ refl)) ∙ before)
 list_more Kind.Exception Kind.Record name values ds raws old is read before =
-    rw is (ap (listed Kind.Exception) (get_member-put_other (list_name Kind.Exception) (list_name Kind.Record) (array ds) values (apart _ _ refl)) ∙ before)
+    rw is (ap (items_under Kind.Exception) (get_member-put_other (list_name Kind.Exception) (list_name Kind.Record) (array ds) values (apart _ _ refl)) ∙ before)
 list_more Kind.Exception Kind.Relation name values ds raws old is read before =
-    rw is (ap (listed Kind.Exception) (get_member-put_other (list_name Kind.Exception) (list_name Kind.Relation) (array ds) values (apart _ _ refl)) ∙ before)
+    rw is (ap (items_under Kind.Exception) (get_member-put_other (list_name Kind.Exception) (list_name Kind.Relation) (array ds) values (apart _ _ refl)) ∙ before)
 
 -- one more list
 pub lists_more : (ms : json.Members) (left new : List Token) (front middle end raws : List RawItem) (kind : Kind) (name : List ℕ) (js : json.Items) (j : json.Json) (rest : json.Members)
@@ -252,7 +252,7 @@ read-document text j is shallow =
     (ap (json.value 127) all ∙ value-json_tokens j 127 [] shallow)
 
 pub items-of_lists : (text : List ℕ) (ms : json.Members) (front middle end : List RawItem) → IsUtf8 text → document text ≡ Some (json.object ms)
-    → AreLists ms front middle end → option_and_then items_of (value_of text) ≡ Some ((front ++ middle) ++ end)
+    → AreLists ms front middle end → option_and_then upload_items (value_of text) ≡ Some ((front ++ middle) ++ end)
 unfolding value_of
 items-of_lists text ms front middle end utf8 is are =
     let shallow : depth (json.object ms) ≤ 127 = omega (arith, are.flat) in
@@ -277,19 +277,19 @@ some_of (Some x) is = (x, refl)
 
 -- ---- a name after those of the fields
 
-pub rising_one : (fields : List (List ℕ × List ℕ)) (name text : List ℕ) → length fields ≡ 0 → AreRising (fields ++ (name, text) ∷ [])
+pub rising_one : (fields : List (List ℕ × List ℕ)) (name text : List ℕ) → length fields ≡ 0 → NamesRise (fields ++ (name, text) ∷ [])
 unfolding IsStrictlySortedBy
 rising_one [] name text none = (tt, tt)
 rising_one (field ∷ fields) name text none = (let never : ⊥ = omega (arith, none) in absurd never)
 
 below_named : (own : List ℕ) (fields : List (List ℕ × List ℕ)) (name text : List ℕ)
-    → AllByRecursion (λ k. slice_cmp nat_cmp own k ≡ Less) (names fields) → slice_cmp nat_cmp own name ≡ Less
-    → AllByRecursion (λ k. slice_cmp nat_cmp own k ≡ Less) (names (fields ++ (name, text) ∷ []))
+    → AllByRecursion (λ k. slice_cmp nat_cmp own k ≡ Less) (names_of_fields fields) → slice_cmp nat_cmp own name ≡ Less
+    → AllByRecursion (λ k. slice_cmp nat_cmp own k ≡ Less) (names_of_fields (fields ++ (name, text) ∷ []))
 below_named own [] name text all last = (last, tt)
 below_named own (field ∷ fields) name text all last = (all.0, below_named own fields name text all.1 last)
 
-rising_at : (fields : List (List ℕ × List ℕ)) (name text : List ℕ) (i : ℕ) → AreRising fields → length fields ≡ suc i
-    → slice_cmp nat_cmp (get_or fields i ([], [])).0 name ≡ Less → AreRising (fields ++ (name, text) ∷ [])
+rising_at : (fields : List (List ℕ × List ℕ)) (name text : List ℕ) (i : ℕ) → NamesRise fields → length fields ≡ suc i
+    → slice_cmp nat_cmp (get_or fields i ([], [])).0 name ≡ Less → NamesRise (fields ++ (name, text) ∷ [])
 unfolding IsStrictlySortedBy
 rising_at [] name text i rising count last = (let never : ⊥ = omega (arith, count) in absurd never)
 rising_at (field ∷ []) name text zero rising count last = ((last, tt), (tt, tt))
@@ -301,6 +301,6 @@ rising_at (field ∷ second ∷ fields) name text (suc i) rising count last =
     let over : slice_cmp nat_cmp field.0 name ≡ Less = nat_list_cmp_total.trans field.0 second.0 name (rising.0).0 step in
     (((rising.0).0, below_named field.0 fields name text (rising.0).1 over), rest)
 
-pub rising_push : (fields : List (List ℕ × List ℕ)) (name text : List ℕ) → AreRising fields → 0 < length fields
-    → slice_cmp nat_cmp (get_or fields (length fields - 1) ([], [])).0 name ≡ Less → AreRising (fields ++ (name, text) ∷ [])
+pub rising_push : (fields : List (List ℕ × List ℕ)) (name text : List ℕ) → NamesRise fields → 0 < length fields
+    → slice_cmp nat_cmp (get_or fields (length fields - 1) ([], [])).0 name ≡ Less → NamesRise (fields ++ (name, text) ∷ [])
 rising_push fields name text rising some last = rising_at fields name text (length fields - 1) rising (omega (arith, some)) last

@@ -18,31 +18,31 @@ unfoldable pub value_of : Body → Option Data
 value_of body = if is_utf8 body then read body else None
 
 -- The members of an object as pairs of a name and a text. There is no reading if a value isn't a text.
-abbrev pub fields_of : Members → Option (List (Text × Text))
-fields_of no_members = Some []
-fields_of (member name value others) =
-    option_and_then (λ text. option_map (λ fields. (name, text) ∷ fields) (fields_of others)) (as_str value)
+abbrev pub text_members : Members → Option (List (Text × Text))
+text_members no_members = Some []
+text_members (member name value others) =
+    option_and_then (λ text. option_map (λ fields. (name, text) ∷ fields) (text_members others)) (as_str value)
 
 -- the item of a kind that has these fields
-abbrev pub sent : Kind → List (Text × Text) → RawItem
-sent Kind.Record fields = RawItem.Record fields
-sent Kind.Relation fields = RawItem.Relation fields
-sent Kind.Exception fields = RawItem.Exception fields
+abbrev pub raw_item : Kind → List (Text × Text) → RawItem
+raw_item Kind.Record fields = RawItem.Record fields
+raw_item Kind.Relation fields = RawItem.Relation fields
+raw_item Kind.Exception fields = RawItem.Exception fields
 
 -- an item as it was sent: an object whose values are texts
-abbrev pub item_of : Kind → Data → Option RawItem
-item_of kind value = option_map (sent kind) (option_and_then fields_of (as_object value))
+abbrev pub raw_item_of : Kind → Data → Option RawItem
+raw_item_of kind value = option_map (raw_item kind) (option_and_then text_members (as_object value))
 
 -- the items of a kind that an array lists. There is no reading if one of its values isn't an item
 abbrev pub list_of : Kind → Items → Option (List RawItem)
 list_of kind no_items = Some []
 list_of kind (item value others) =
-    option_and_then (λ first. option_map (λ more. first ∷ more) (list_of kind others)) (item_of kind value)
+    option_and_then (λ first. option_map (λ more. first ∷ more) (list_of kind others)) (raw_item_of kind value)
 
 -- the items of a kind that the value of a member lists. An absent member has no items.
-abbrev pub listed : Kind → Option Data → Option (List RawItem)
-listed kind None = Some []
-listed kind (Some value) = option_and_then (list_of kind) (as_array value)
+abbrev pub items_under : Kind → Option Data → Option (List RawItem)
+items_under kind None = Some []
+items_under kind (Some value) = option_and_then (list_of kind) (as_array value)
 
 -- the names of an object's members
 abbrev pub member_names : Members → List Text
@@ -62,28 +62,28 @@ is_list_name name =
     || bytes_eq name (list_name Kind.Exception)
 
 -- one list followed by another. There is none if either has no reading.
-abbrev pub behind : {X : Type 0} → Option (List X) → Option (List X) → Option (List X)
-behind None list = None
-behind (Some front) None = None
-behind (Some front) (Some list) = Some (front ++ list)
+abbrev pub append_read : {X : Type 0} → Option (List X) → Option (List X) → Option (List X)
+append_read None list = None
+append_read (Some front) None = None
+append_read (Some front) (Some list) = Some (front ++ list)
 
 -- the items of three members: records, then relationships, then exceptions
-abbrev pub in_order : Option Data → Option Data → Option Data → Option (List RawItem)
-in_order records relationships exceptions =
-    behind (behind (behind (Some []) (listed Kind.Record records)) (listed Kind.Relation relationships))
-    (listed Kind.Exception exceptions)
+abbrev pub items_of_lists : Option Data → Option Data → Option Data → Option (List RawItem)
+items_of_lists records relationships exceptions =
+    append_read (append_read (append_read (Some []) (items_under Kind.Record records)) (items_under Kind.Relation relationships))
+    (items_under Kind.Exception exceptions)
 
 -- the items in the lists of an object's members
-abbrev pub items_in : Members → Option (List RawItem)
-items_in members =
-    in_order (get_member (list_name Kind.Record) members) (get_member (list_name Kind.Relation) members)
+abbrev pub items_of_members : Members → Option (List RawItem)
+items_of_members members =
+    items_of_lists (get_member (list_name Kind.Record) members) (get_member (list_name Kind.Relation) members)
     (get_member (list_name Kind.Exception) members)
 
 -- The items that a value lists. The value is an object that has only these members. There is no reading if it isn't an
 -- upload.
-abbrev pub items_of : Data → Option (List RawItem)
-items_of value =
-    option_and_then (λ members. if list_all is_list_name (member_names members) then items_in
+abbrev pub upload_items : Data → Option (List RawItem)
+upload_items value =
+    option_and_then (λ members. if list_all is_list_name (member_names members) then items_of_members
     members else None)
     (as_object value)
 
@@ -92,20 +92,20 @@ abbrev pub item_limit : ℕ
 item_limit = 5_000
 
 -- the items, if there is at least 1 and at most as many as an upload may have, or else the fault
-abbrev pub counted : List RawItem → Result (List RawItem) Malformed
-counted items =
+abbrev pub if_countable : List RawItem → Result (List RawItem) Malformed
+if_countable items =
     if length items == 0 then Err NoItems else
     (if nat_lt item_limit (length items) then Err TooManyItems else Ok items)
 
 -- the items if they are an upload's, or else the fault
 abbrev pub of_items : Option (List RawItem) → Result (List RawItem) Malformed
 of_items None = Err NotAnUpload
-of_items (Some items) = counted items
+of_items (Some items) = if_countable items
 
 -- the items that a value lists, or the fault; if there is no value, the body isn't JSON
 abbrev pub of_value : Option Data → Result (List RawItem) Malformed
 of_value None = Err NotJson
-of_value (Some value) = of_items (items_of value)
+of_value (Some value) = of_items (upload_items value)
 
 -- The items of a body, or the first of the four faults that it has.
 unfoldable pub upload : Body → Result (List RawItem) Malformed
@@ -114,26 +114,26 @@ upload body = of_value (value_of body)
 -- ---- what a reader returns: exactly the items or the fault, unless memory ran out
 
 -- a reader's fault is the one in `read`; `NoMemory` may be returned in its place, and in place of items
-abbrev pub Fails : {Y : Type 0} → UploadFault → Result Y Malformed → Type 0
-Fails faults.NoMemory read = Unit {0}
-Fails (faults.Malformed fault) read = read ≡ Err fault
+abbrev pub BodyFails : {Y : Type 0} → UploadFault → Result Y Malformed → Type 0
+BodyFails faults.NoMemory read = Unit {0}
+BodyFails (faults.Malformed fault) read = read ≡ Err fault
 
 -- a reader returns the value in `read`, as contracts see it, or its fault
-abbrev pub Gives : {X Y : Type 0} → (X → Y) → Result X UploadFault → Result Y Malformed → Type 0
-Gives view (Ok x) read = read ≡ Ok (view x)
-Gives view (Err fault) read = Fails fault read
+abbrev pub BodyGives : {X Y : Type 0} → (X → Y) → Result X UploadFault → Result Y Malformed → Type 0
+BodyGives view (Ok x) read = read ≡ Ok (view x)
+BodyGives view (Err fault) read = BodyFails fault read
 
 -- the JSON value, or else the fault that the body isn't JSON
-abbrev pub parsed : {Y : Type 0} → Option Y → Result Y Malformed
-parsed None = Err NotJson
-parsed (Some y) = Ok y
+abbrev pub or_no_json : {Y : Type 0} → Option Y → Result Y Malformed
+or_no_json None = Err NotJson
+or_no_json (Some y) = Ok y
 
 -- a part of an upload, or else the fault that the body isn't an upload
-abbrev pub found : {Y : Type 0} → Option Y → Result Y Malformed
-found None = Err NotAnUpload
-found (Some y) = Ok y
+abbrev pub or_no_upload : {Y : Type 0} → Option Y → Result Y Malformed
+or_no_upload None = Err NotAnUpload
+or_no_upload (Some y) = Ok y
 
 -- the items of a value before they are counted; if there is no value, the body isn't JSON
-abbrev pub uncounted : Option Data → Result (List RawItem) Malformed
-uncounted None = Err NotJson
-uncounted (Some value) = found (items_of value)
+abbrev pub items_in_value : Option Data → Result (List RawItem) Malformed
+items_in_value None = Err NotJson
+items_in_value (Some value) = or_no_upload (upload_items value)

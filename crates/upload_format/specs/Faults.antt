@@ -6,6 +6,6 @@ use Rattle.upload_format.specs.declared.fault.UploadFault.{UploadFault}
 use Rattle.upload_format.specs.declared.fault.UploadFault.TheVariants as faults
 
 -- the words for a body that wasn't read
-abbrev pub fault_words : UploadFault → Text
-fault_words (faults.Malformed fault) = malformed_words fault
-fault_words faults.NoMemory = codes "out of memory"
+abbrev pub upload_fault_words : UploadFault → Text
+upload_fault_words (faults.Malformed fault) = malformed_words fault
+upload_fault_words faults.NoMemory = codes "out of memory"

@@ -9,16 +9,16 @@ use Rattle.serde_json.specs.Read.{of_items, of_members}
 use Rattle.lei_code.specs.Texts.{Text}
 use Rattle.lei_records.specs.declared.fields.Kind.{Kind}
 use Rattle.lei_records.specs.declared.item.RawItem.{RawItem}
-use Rattle.upload_format.specs.Bodies.{is_list_name, list_name, list_of, listed, member_names}
+use Rattle.upload_format.specs.Bodies.{is_list_name, items_under, list_name, list_of, member_names}
 
 -- The members of an object that has these names, each with its text.
-abbrev pub texts_of : List (Text × Text) → Members
-texts_of [] = no_members
-texts_of (field ∷ fields) = member field.0 (string field.1) (texts_of fields)
+abbrev pub members_with_texts : List (Text × Text) → Members
+members_with_texts [] = no_members
+members_with_texts (field ∷ fields) = member field.0 (string field.1) (members_with_texts fields)
 
 -- The value of the members is these fields. No value is nested in another.
 pub record AreFields (members : json.Members) (fields : List (Text × Text)) : Type 0 where
-  pub value : of_members members no_members ≡ Some (texts_of fields)
+  pub value : of_members members no_members ≡ Some (members_with_texts fields)
   pub flat : members_depth members ≤ 0
 
 -- The values of the array are these items of a kind. Each of them is an object of texts.
@@ -33,9 +33,9 @@ pub record AreLists (members : json.Members) (front middle end : List RawItem) :
   pub values : Members
   pub value : of_members members no_members ≡ Some values
   pub known : list_all is_list_name (member_names values) ≡ true
-  pub records : listed Kind.Record (get_member (list_name Kind.Record) values) ≡ Some front
-  pub relations : listed Kind.Relation (get_member (list_name Kind.Relation) values) ≡ Some middle
-  pub exceptions : listed Kind.Exception (get_member (list_name Kind.Exception) values) ≡ Some end
+  pub records : items_under Kind.Record (get_member (list_name Kind.Record) values) ≡ Some front
+  pub relations : items_under Kind.Relation (get_member (list_name Kind.Relation) values) ≡ Some middle
+  pub exceptions : items_under Kind.Exception (get_member (list_name Kind.Exception) values) ≡ Some end
   pub flat : members_depth members ≤ 2
 
 -- The list of kind `own` after a list of kind `kind` was read: the new one if the kinds are the same, or else the old

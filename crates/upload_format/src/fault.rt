@@ -18,9 +18,9 @@ pub enum UploadFault {
 }
 
 impl fmt::Display for UploadFault {
-    ghost use Rattle.upload_format.specs.Faults.{fault_words};
+    ghost use Rattle.upload_format.specs.Faults.{upload_fault_words};
 
-    ghost output = { λ fault. Some (fault_words fault) };
+    ghost output = { λ fault. Some (upload_fault_words fault) };
 
     fn fmt<W: fmt::Write>(&self, f: &mut fmt::Formatter<W>) -> fmt::Result {
         match self {

@@ -6,7 +6,7 @@ use lei_records::{Fields, Kind, RawItem};
 
 // The item of a kind with these fields.
 pub fn raw_item(kind: Kind, fields: Fields) -> RawItem
-    ensures { result ≡ Bodies.sent kind fields }
+    ensures { result ≡ Bodies.raw_item kind fields }
 {
     match kind {
         Kind::Record => RawItem::Record(fields),

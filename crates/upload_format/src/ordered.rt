@@ -3,10 +3,10 @@
 ghost use Rattle.std.specs.Prelude.{◌≡◌, ◌++◌, ◌∷◌, [], ℕ, List as Listed, IfOk, IfSome, IsTrue, Some, option_and_then};
 ghost use Rattle.json.specs.Find.{InItems, InMembers};
 ghost use Rattle.json.specs.Json as spec;
-ghost use Rattle.lei_records.specs.Names.{AreRising};
+ghost use Rattle.lei_records.specs.Names.{NamesRise};
 ghost use Rattle.lei_records.specs.declared.fields.Kind.{Kind};
 ghost use Rattle.upload_format.specs.Bodies;
-ghost use Rattle.upload_format.specs.Bodies.{items_of, list_name, value_of};
+ghost use Rattle.upload_format.specs.Bodies.{list_name, upload_items, value_of};
 ghost use Rattle.upload_format.specs.Ordered.{AreFields, AreItems, AreLists, list_with};
 
 use crate::items::raw_item;
@@ -24,7 +24,7 @@ pub fn read_ordered(
     body: &[u8],
 ) -> Result<Option<Vec<RawItem>>, NoMemory>
     ensures { IfOk result (λ read. IfSome read
-        (λ items. option_and_then items_of (value_of body.now) ≡ Some items.items)) }
+        (λ items. option_and_then upload_items (value_of body.now) ≡ Some items.items)) }
 {
     let Ok(text) = simdutf8::basic::from_utf8(body) else {
         return Ok(None);
@@ -38,7 +38,7 @@ fn read_text(
     text: &str,
 ) -> Result<Option<Vec<RawItem>>, NoMemory>
     ensures { IfOk result (λ read. IfSome read
-        (λ items. option_and_then items_of (value_of text.now) ≡ Some items.items)) }
+        (λ items. option_and_then upload_items (value_of text.now) ≡ Some items.items)) }
 {
     let tape = match Tape::parse(text, scratch, Vec::new(alloc)) {
         Ok(tape) => tape,
@@ -77,7 +77,7 @@ fn joined(lists: Lists) -> Result<Vec<RawItem>, NoMemory>
     Ok(items)
 }
 
-// The lists of an upload's members. If a list is repeated, the last one counts. If a list is repeated, the last one counts.
+// The lists of an upload's members. If a list is repeated, the last one counts.
 fn read_lists(alloc: Global, members: Members<'_, '_>) -> Result<Option<Lists>, NoMemory>
     ensures { IfOk result (λ read. IfSome read (λ lists. (ms : spec.Members) → InMembers members.entry ms
         → AreLists ms lists.records.items lists.relations.items lists.exceptions.items)) }
@@ -186,7 +186,7 @@ const BYTES: usize = 1_500;
 
 // Whether the name comes after those of the fields in byte order.
 fn is_next(fields: &Fields, name: &str) -> bool
-    ensures { (text : Listed ℕ) → IsTrue result → AreRising (fields.now ++ (name.now, text) ∷ []) }
+    ensures { (text : Listed ℕ) → IsTrue result → NamesRise (fields.now ++ (name.now, text) ∷ []) }
 {
     let count = fields.len();
     count == 0 || fields.name(count - 1) < name

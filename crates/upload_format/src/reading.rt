@@ -6,7 +6,7 @@ ghost use Rattle.serde_json.specs.Find.{as_str, get_member};
 ghost use Rattle.serde_json.specs.View.{view, members_view, items_view};
 ghost use Rattle.lei_records.specs.declared.fields.Kind.{Kind};
 ghost use Rattle.upload_format.specs.Bodies;
-ghost use Rattle.upload_format.specs.Bodies.{Gives, behind, fields_of, found, in_order, item_of, items_of, list_name, list_of, listed, member_names, parsed, uncounted, upload, value_of};
+ghost use Rattle.upload_format.specs.Bodies.{BodyGives, append_read, items_in_value, items_of_lists, items_under, list_name, list_of, member_names, or_no_json, or_no_upload, raw_item_of, text_members, upload, upload_items, value_of};
 
 use crate::fault::UploadFault;
 use crate::items::raw_item;
@@ -27,7 +27,7 @@ pub const MAX_ITEMS: usize = 5000;
 /// relationships, then the exceptions, each in the order in which they were sent. Names and texts are copied into the
 /// items.
 pub fn read_upload(alloc: Global, body: &[u8]) -> Result<Upload, UploadFault>
-    ensures { Gives (λ read. read.items) result (upload body.now) }
+    ensures { BodyGives (λ read. read.items) result (upload body.now) }
 {
     let mut reader = Reader::new(alloc);
     reader.read(alloc, body)
@@ -51,7 +51,7 @@ impl Reader {
     /// Reads a body as [`read_upload`] does.
     #[tactic(auto, unfolding(crate::specs::Bodies::upload))]
     pub fn read(&mut self, alloc: Global, body: &[u8]) -> Result<Upload, UploadFault>
-        ensures { Gives (λ read. read.items) result (upload body.now) }
+        ensures { BodyGives (λ read. read.items) result (upload body.now) }
     {
         let items = read_body(alloc, &mut self.scratch, body)?;
         if items.is_empty() {
@@ -68,7 +68,7 @@ impl Reader {
 
 // The items of a body before they are counted. If they have their names in byte order, no tree of values is built.
 fn read_body(alloc: Global, scratch: &mut Scratch, body: &[u8]) -> Result<Vec<RawItem>, UploadFault>
-    ensures { Gives (λ items. items.items) result (uncounted (value_of body.now)) }
+    ensures { BodyGives (λ items. items.items) result (items_in_value (value_of body.now)) }
 {
     match read_ordered(alloc, scratch, body)? {
         Some(items) => Ok(items),
@@ -77,14 +77,14 @@ fn read_body(alloc: Global, scratch: &mut Scratch, body: &[u8]) -> Result<Vec<Ra
 }
 
 fn read_tree(alloc: Global, body: &[u8]) -> Result<Vec<RawItem>, UploadFault>
-    ensures { Gives (λ items. items.items) result (uncounted (value_of body.now)) }
+    ensures { BodyGives (λ items. items.items) result (items_in_value (value_of body.now)) }
 {
     let value = read_value(alloc, body)?;
     read_items(alloc, value)
 }
 
 fn read_value(alloc: Global, body: &[u8]) -> Result<Value, UploadFault>
-    ensures { Gives view result (parsed (value_of body.now)) }
+    ensures { BodyGives view result (or_no_json (value_of body.now)) }
 {
     match Value::from_slice(alloc, body) {
         Ok(value) => Ok(value),
@@ -99,7 +99,7 @@ fn read_value(alloc: Global, body: &[u8]) -> Result<Value, UploadFault>
 
 // The items of a value, if it is an object whose members all have the name of an upload's list.
 fn read_items(alloc: Global, value: Value) -> Result<Vec<RawItem>, UploadFault>
-    ensures { Gives (λ items. items.items) result (found (items_of (view value))) }
+    ensures { BodyGives (λ items. items.items) result (or_no_upload (upload_items (view value))) }
 {
     let Value::Object(members) = value else {
         return Err(UploadFault::Malformed(Malformed::NotAnUpload));
@@ -160,8 +160,8 @@ fn take_member(members: &mut Map<String, Value>, name: &str) -> Option<Value>
 
 // The items of the three lists, one list after another.
 fn read_lists(alloc: Global, lists: Lists) -> Result<Vec<RawItem>, UploadFault>
-    ensures { Gives (λ items. items.items) result
-        (found (in_order (option_map view lists.records) (option_map view lists.relationships)
+    ensures { BodyGives (λ items. items.items) result
+        (or_no_upload (items_of_lists (option_map view lists.records) (option_map view lists.relationships)
         (option_map view lists.exceptions))) }
 {
     let items = Vec::new(alloc);
@@ -177,8 +177,8 @@ fn read_list(
     kind: Kind,
     list: Option<Value>,
 ) -> Result<Vec<RawItem>, UploadFault>
-    ensures { Gives (λ read. read.items) result
-        (found (behind (Some items.items) (listed kind (option_map view list)))) }
+    ensures { BodyGives (λ read. read.items) result
+        (or_no_upload (append_read (Some items.items) (items_under kind (option_map view list)))) }
 {
     match list {
         None => Ok(items),
@@ -193,8 +193,8 @@ fn read_values(
     kind: Kind,
     values: Vec<Value>,
 ) -> Result<Vec<RawItem>, UploadFault>
-    ensures { Gives (λ read. read.items) result
-        (found (behind (Some items.items) (list_of kind (items_view values.items)))) }
+    ensures { BodyGives (λ read. read.items) result
+        (or_no_upload (append_read (Some items.items) (list_of kind (items_view values.items)))) }
 {
     items.reserve(values.len())?;
     for value in values {
@@ -204,7 +204,7 @@ fn read_values(
 }
 
 fn read_item(alloc: Global, kind: Kind, value: Value) -> Result<RawItem, UploadFault>
-    ensures { Gives (λ item. item) result (found (item_of kind (view value))) }
+    ensures { BodyGives (λ item. item) result (or_no_upload (raw_item_of kind (view value))) }
 {
     let Value::Object(members) = value else {
         return Err(UploadFault::Malformed(Malformed::NotAnUpload));
@@ -213,7 +213,8 @@ fn read_item(alloc: Global, kind: Kind, value: Value) -> Result<RawItem, UploadF
 }
 
 fn read_fields(alloc: Global, members: Map<String, Value>) -> Result<Fields, UploadFault>
-    ensures { Gives (λ fields. fields) result (found (fields_of (members_view members.entries))) }
+    ensures { BodyGives (λ fields. fields) result
+        (or_no_upload (text_members (members_view members.entries))) }
 {
     let mut fields = Fields::with_capacity(alloc, members.len(), 0)?;
     for (name, value) in members {
@@ -224,7 +225,7 @@ fn read_fields(alloc: Global, members: Map<String, Value>) -> Result<Fields, Upl
 }
 
 fn read_text(value: Value) -> Result<Text, UploadFault>
-    ensures { Gives (λ text. text) result (found (as_str (view value))) }
+    ensures { BodyGives (λ text. text) result (or_no_upload (as_str (view value))) }
 {
     match value {
         Value::String(text) => Ok(Text::from(text)),

@@ -12,7 +12,7 @@ use Rattle.lei_code.specs.Code.{IsValid}
 use Rattle.lei_outside.specs.declared.entry.KeptEntry.{KeptEntry}
 use Rattle.upload_ledger.specs.declared.index.IssuerPlaces.{IssuerPlaces}
 use Rattle.upload_ledger.specs.History.{History, is_accreditation_of, is_upload_of}
-use Rattle.upload_ledger.specs.Index.{AreOf, ArePlaces, HasRoom, Index, IsFirstPlace, IsIndex, IsSame, accreditation_in, places_of, uploads_in}
+use Rattle.upload_ledger.specs.Index.{AreOf, ArePlaces, HasRoomForIssuer, Index, IsFirstPlace, IsIndex, IsSameIndex, accreditation_place, places_of, uploads_in}
 use Rattle.upload_ledger.proofs.PlaceLemmas.{first-push, places-push}
 
 -- what is kept of one issuer was written
@@ -24,9 +24,9 @@ same-text xs ys is = (bytes_eq-Decides xs ys).0 is
 
 -- ---- nothing that contracts see changed
 
-pub same-entries : (old new : Index) → new.entries ≡ old.entries → IsSame old new
+pub same-entries : (old new : Index) → new.entries ≡ old.entries → IsSameIndex old new
 same-entries old new is = record {
-  accreditation = λ q. ap accreditation_in (found q);
+  accreditation = λ q. ap accreditation_place (found q);
   uploads = λ q. ap uploads_in (found q);
   room = λ q room. record { places = room.places; found = found q ∙ room.found; spare = room.spare };
 }
@@ -36,11 +36,11 @@ same-entries old new is = record {
 
 -- the same was written, with room
 pub same-write : (old new : Index) (issuer : List ℕ) (was : Option IssuerPlaces) (now : IssuerPlaces) → places_of old issuer ≡ was → Writes old new issuer now
-    → now.accreditation ≡ accreditation_in was → now.uploads.items ≡ uploads_in was
+    → now.accreditation ≡ accreditation_place was → now.uploads.items ≡ uploads_in was
     → ((places : IssuerPlaces) → was ≡ Some places → vec_len places.uploads < vec_capacity places.uploads → vec_len now.uploads < vec_capacity now.uploads)
-    → IsSame old new
+    → IsSameIndex old new
 same-write old new issuer was now held writes same_accreditation same_uploads spare = record {
-  accreditation = λ q. by_test accreditation_in same_accreditation q (bytes_eq issuer q) refl;
+  accreditation = λ q. by_test accreditation_place same_accreditation q (bytes_eq issuer q) refl;
   uploads = λ q. by_test uploads_in same_uploads q (bytes_eq issuer q) refl;
   room = λ q room. has_room q room (bytes_eq issuer q) refl;
 }
@@ -52,7 +52,7 @@ same-write old new issuer was now held writes same_accreditation same_uploads sp
     by_test part same q true t = ap part (writes q ∙ ap (λ b. cond b (Some now) (places_of old q)) t) ∙ (same ∙ ap part (sym (at q t)))
     by_test part same q false t = ap part (writes q ∙ ap (λ b. cond b (Some now) (places_of old q)) t)
 
-    has_room : (q : List ℕ) → HasRoom old q → (b : Bool) → bytes_eq issuer q ≡ b → HasRoom new q
+    has_room : (q : List ℕ) → HasRoomForIssuer old q → (b : Bool) → bytes_eq issuer q ≡ b → HasRoomForIssuer new q
     has_room q room true t = record {
       places = now;
       found = writes q ∙ ap (λ b. cond b (Some now) (places_of old q)) t;
@@ -65,14 +65,14 @@ same-write old new issuer was now held writes same_accreditation same_uploads sp
     }
 
 -- what was written has room
-pub room-write : (old new : Index) (issuer : List ℕ) (now : IssuerPlaces) → Writes old new issuer now → vec_len now.uploads < vec_capacity now.uploads → HasRoom new issuer
+pub room-write : (old new : Index) (issuer : List ℕ) (now : IssuerPlaces) → Writes old new issuer now → vec_len now.uploads < vec_capacity now.uploads → HasRoomForIssuer new issuer
 room-write old new issuer now writes spare = record {
   places = now;
   found = writes issuer ∙ ap (λ b. cond b (Some now) (places_of old issuer)) ((bytes_eq-Decides issuer issuer).1 refl);
   spare = spare;
 }
 
-pub index-same : (history : History) (old new : Index) → IsSame old new → IsIndex history old → IsIndex history new
+pub index-same : (history : History) (old new : Index) → IsSameIndex old new → IsIndex history old → IsIndex history new
 index-same history old new same is q valid = record {
   accreditation = (let P : Option ℕ → Type 0 = λ o. IsFirstPlace (is_accreditation_of q) history o in subst P (sym (same.accreditation q)) (is q valid).accreditation);
   uploads = (let P : List ℕ → Type 0 = λ l. ArePlaces (is_upload_of q) history l in subst P (sym (same.uploads q)) (is q valid).uploads);
@@ -82,12 +82,12 @@ index-same history old new same is q valid = record {
 
 -- what an issuer has after the entry
 pushed : (history : History) (e : KeptEntry) (q : List ℕ) (old new : Option IssuerPlaces) → AreOf history q old
-    → accreditation_in new ≡ cond (is_accreditation_of q e) (option_or (accreditation_in old) (Some (length history))) (accreditation_in old)
+    → accreditation_place new ≡ cond (is_accreditation_of q e) (option_or (accreditation_place old) (Some (length history))) (accreditation_place old)
     → uploads_in new ≡ cond (is_upload_of q e) (uploads_in old ++ length history ∷ []) (uploads_in old)
     → AreOf (history ++ e ∷ []) q new
 pushed history e q old new are accreditation uploads = record {
   accreditation = (let P : Option ℕ → Type 0 = λ o. IsFirstPlace (is_accreditation_of q) (history ++ e ∷ []) o in
-      subst P (sym accreditation) (first-push (is_accreditation_of q) history e (accreditation_in old) are.accreditation));
+      subst P (sym accreditation) (first-push (is_accreditation_of q) history e (accreditation_place old) are.accreditation));
   uploads = (let P : List ℕ → Type 0 = λ l. ArePlaces (is_upload_of q) (history ++ e ∷ []) l in
       subst P (sym uploads) (places-push (is_upload_of q) history e (uploads_in old) are.uploads));
 }
@@ -125,8 +125,8 @@ index-note history old new e was now is held writes accreditation uploads q vali
         let at : places_of old q ≡ Some was = ap (places_of old) (sym (same-text e.office q t)) ∙ held in
         let found : places_of new q ≡ Some now = writes q ∙ ap (λ b. cond b (Some now) (places_of old q)) t in
         pushed history e q (places_of old q) (places_of new q) (is q valid)
-        (ap accreditation_in found ∙ (accreditation
-        ∙ (ap (λ o. cond (e.kind == 1) (option_or (accreditation_in o) (Some (length history))) (accreditation_in o)) (sym at)
+        (ap accreditation_place found ∙ (accreditation
+        ∙ (ap (λ o. cond (e.kind == 1) (option_or (accreditation_place o) (Some (length history))) (accreditation_place o)) (sym at)
         ∙ matched (e.kind == 1) (bytes_eq e.office q) _ _ t)))
         (ap uploads_in found ∙ (uploads
         ∙ (ap (λ o. cond (e.kind == 2) (uploads_in o ++ length history ∷ []) (uploads_in o)) (sym at)
@@ -134,12 +134,12 @@ index-note history old new e was now is held writes accreditation uploads q vali
     by_test false t =
         let found : places_of new q ≡ places_of old q = writes q ∙ ap (λ b. cond b (Some now) (places_of old q)) t in
         pushed history e q (places_of old q) (places_of new q) (is q valid)
-        (ap accreditation_in found ∙ unmatched (e.kind == 1) (bytes_eq e.office q) _ _ t)
+        (ap accreditation_place found ∙ unmatched (e.kind == 1) (bytes_eq e.office q) _ _ t)
         (ap uploads_in found ∙ unmatched (e.kind == 2) (bytes_eq e.office q) _ _ t)
 
 -- room was made at the issuer
 pub reserved : (old new : Index) (issuer : List ℕ) (was now : IssuerPlaces) → places_of old issuer ≡ Some was → Writes old new issuer now → now.accreditation ≡ was.accreditation
-    → now.uploads.items ≡ was.uploads.items → vec_len now.uploads ≡ vec_len was.uploads → vec_capacity was.uploads ≤ vec_capacity now.uploads → IsSame old new
+    → now.uploads.items ≡ was.uploads.items → vec_len now.uploads ≡ vec_len was.uploads → vec_capacity was.uploads ≤ vec_capacity now.uploads → IsSameIndex old new
 reserved old new issuer was now held writes accreditation uploads same more =
     same-write old new issuer (Some was) now held writes accreditation uploads
     (λ places is spare. (let F : IssuerPlaces → Type 0 = λ p. vec_len p.uploads < vec_capacity p.uploads in

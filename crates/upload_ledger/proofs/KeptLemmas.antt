@@ -6,8 +6,8 @@ use Rattle.std.proofs.lemmas.List.Sums.{sum_by-append, length-filter, count_by-l
 use Rattle.lei_outside.specs.declared.entry.KeptEntry.{KeptEntry}
 use Rattle.upload_ledger.specs.declared.ledger.Ledger.TheInside.{Inside}
 use Rattle.upload_ledger.specs.History.{History, is_accreditation, is_publication, kept_bytes}
-use Rattle.upload_ledger.specs.Index.{ArePlaces, IsIndex, IsSame}
-use Rattle.upload_ledger.specs.Ledgers.{IsKept, IsRoomFor}
+use Rattle.upload_ledger.specs.Index.{ArePlaces, IsIndex, IsSameIndex}
+use Rattle.upload_ledger.specs.Ledgers.{IsLedger, IsRoomFor}
 use Rattle.upload_ledger.specs.Limits.{AreFew}
 use Rattle.upload_ledger.specs.State.{LedgerState}
 use Rattle.upload_ledger.specs.contracts.ledger.Ledger.{the_view as view_of}
@@ -25,7 +25,7 @@ places-few test history places are few = omega (arith, places-length test histor
 
 -- what had room still has it
 pub room-stays : (old new : Inside) (room : Option (List ℕ)) → vec_len new.entries ≡ vec_len old.entries → vec_capacity old.entries ≤ vec_capacity new.entries
-    → vec_len new.publications ≡ vec_len old.publications → vec_capacity old.publications ≤ vec_capacity new.publications → IsSame old.index new.index
+    → vec_len new.publications ≡ vec_len old.publications → vec_capacity old.publications ≤ vec_capacity new.publications → IsSameIndex old.index new.index
     → IsRoomFor old room → IsRoomFor new room
 room-stays old new None entries more publications more_publications same has = tt
 room-stays old new (Some issuer) entries more publications more_publications same has = record {
@@ -35,8 +35,8 @@ room-stays old new (Some issuer) entries more publications more_publications sam
 }
 
 -- the same is kept, with other room
-pub kept-room : (old new : Inside) → IsKept old → new.entries.items ≡ old.entries.items → new.publications.items ≡ old.publications.items → IsSame old.index new.index
-    → new.accreditations ≡ old.accreditations → new.kept_bytes ≡ old.kept_bytes → IsRoomFor new (option_map (λ s. s.value) new.room) → IsKept new
+pub kept-room : (old new : Inside) → IsLedger old → new.entries.items ≡ old.entries.items → new.publications.items ≡ old.publications.items → IsSameIndex old.index new.index
+    → new.accreditations ≡ old.accreditations → new.kept_bytes ≡ old.kept_bytes → IsRoomFor new (option_map (λ s. s.value) new.room) → IsLedger new
 kept-room old new kept entries publications same accreditations bytes room = record {
   index = (let P : History → Type 0 = λ h. IsIndex h new.index in subst P (sym entries) (index-same old.entries.items old.index new.index same kept.index));
   publications = (let P : List ℕ → Type 0 = λ l. ArePlaces is_publication new.entries.items l in
@@ -59,10 +59,10 @@ counted test history e =
     one true = refl
     one false = refl
 
-pub kept-push : (old new : Inside) (e : KeptEntry) → IsKept old → new.entries.items ≡ old.entries.items ++ e ∷ [] → IsIndex (old.entries.items ++ e ∷ []) new.index
+pub kept-push : (old new : Inside) (e : KeptEntry) → IsLedger old → new.entries.items ≡ old.entries.items ++ e ∷ [] → IsIndex (old.entries.items ++ e ∷ []) new.index
     → new.publications.items ≡ cond (is_publication e) (old.publications.items ++ length old.entries.items ∷ []) old.publications.items
     → new.accreditations ≡ old.accreditations + cond (is_accreditation e) 1 0 → new.kept_bytes ≡ old.kept_bytes + length e.body
-    → AreFew (old.entries.items ++ e ∷ []) → option_map (λ s. s.value) new.room ≡ None → IsKept new
+    → AreFew (old.entries.items ++ e ∷ []) → option_map (λ s. s.value) new.room ≡ None → IsLedger new
 kept-push old new e kept entries index publications accreditations bytes few room = record {
   index = (let P : History → Type 0 = λ h. IsIndex h new.index in subst P (sym entries) index);
   publications = (let P : List ℕ → Type 0 = λ l. ArePlaces is_publication new.entries.items l in
@@ -84,6 +84,6 @@ pub old-entries : (ledger : Inside) (state : LedgerState) (e : KeptEntry) → vi
 old-entries ledger state e is few = (let P : LedgerState → Type 0 = λ s. AreFew (s.entries ++ e ∷ []) in subst P (sym is) few)
 
 -- one more accreditation, and still at most as many as entries
-pub few-accreditations : (ledger : Inside) (e : KeptEntry) → IsKept ledger → AreFew (ledger.entries.items ++ e ∷ []) → ledger.accreditations + cond (is_accreditation e) 1 0 ≤ 10000000
+pub few-accreditations : (ledger : Inside) (e : KeptEntry) → IsLedger ledger → AreFew (ledger.entries.items ++ e ∷ []) → ledger.accreditations + cond (is_accreditation e) 1 0 ≤ 10000000
 few-accreditations ledger e kept few =
     omega (arith, kept.accreditations, counted is_accreditation ledger.entries.items e, filter-few is_accreditation (ledger.entries.items ++ e ∷ []), few.entries)

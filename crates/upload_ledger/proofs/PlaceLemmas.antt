@@ -10,7 +10,7 @@ use Rattle.std.specs.Borrow.{Bor}
 use Rattle.std.specs.Option.{option_or}
 use Rattle.std.specs.Slice.{IsGetResult}
 use Rattle.lei_outside.specs.declared.entry.KeptEntry.{KeptEntry}
-use Rattle.upload_ledger.specs.History.{History, numbered}
+use Rattle.upload_ledger.specs.History.{History, entry_numbered}
 use Rattle.upload_ledger.specs.Index.{ArePlaces, IsFirstPlace}
 
 -- ---- reading
@@ -39,7 +39,7 @@ places-length test history places are = sym (length-map places (slice_get histor
 
 -- the entry with a number, if the number's place is found
 pub entry_of_number : (test : KeptEntry → Bool) (history : History) (places : List ℕ) (number place : ℕ) (found : Option KeptEntry) → ArePlaces test history places
-    → 0 < number → slice_get places (number - 1) ≡ Some place → found ≡ slice_get history place → found ≡ numbered (filter test history) number
+    → 0 < number → slice_get places (number - 1) ≡ Some place → found ≡ slice_get history place → found ≡ entry_numbered (filter test history) number
 entry_of_number test history places number place found are some at is =
     is ∙ (ap (option_and_then (slice_get history)) (sym at) ∙ (place-at test history places (number - 1) are ∙ ap (λ b. cond b None (slice_get (filter test history) (number - 1))) (sym (is_some number some))))
   where

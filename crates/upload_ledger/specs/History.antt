@@ -47,8 +47,8 @@ abbrev pub is_upload_of : Lei → KeptEntry → Bool
 is_upload_of issuer e = is_upload e && bytes_eq e.office issuer
 
 -- the entry with this number in a list, counted from 1
-abbrev pub numbered : History → ℕ → Option KeptEntry
-numbered entries number = if number == 0 then None else slice_get entries (number - 1)
+abbrev pub entry_numbered : History → ℕ → Option KeptEntry
+entry_numbered entries number = if number == 0 then None else slice_get entries (number - 1)
 
 -- ---- what a history has of an issuer
 
@@ -70,7 +70,7 @@ next_number history issuer = last history issuer + 1
 
 -- the issuer's upload with this number, counted from 1
 abbrev pub upload_at : History → Lei → ℕ → Option KeptEntry
-upload_at history issuer number = numbered (uploads history issuer) number
+upload_at history issuer number = entry_numbered (uploads history issuer) number
 
 -- the answer to the issuer's upload with this number
 abbrev pub kept : History → Lei → ℕ → Option Text
@@ -84,7 +84,7 @@ publications history = filter is_publication history
 
 -- the answer to the publication with this number
 abbrev pub published : History → ℕ → Option Text
-published history number = option_map (λ e. e.answer) (numbered (publications history) number)
+published history number = option_map (λ e. e.answer) (entry_numbered (publications history) number)
 
 -- ---- the totals
 

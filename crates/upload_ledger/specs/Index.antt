@@ -27,9 +27,9 @@ abbrev pub places_of : Index → Lei → Option IssuerPlaces
 places_of index issuer = get (slice_cmp nat_cmp) index issuer
 
 -- the place of its accreditation
-abbrev pub accreditation_in : Option IssuerPlaces → Option ℕ
-accreditation_in None = None
-accreditation_in (Some places) = places.accreditation
+abbrev pub accreditation_place : Option IssuerPlaces → Option ℕ
+accreditation_place None = None
+accreditation_place (Some places) = places.accreditation
 
 -- the places of its uploads
 abbrev pub uploads_in : Option IssuerPlaces → List ℕ
@@ -38,7 +38,7 @@ uploads_in (Some places) = places.uploads.items
 
 -- what is kept of an issuer gives the places of its entries
 pub record AreOf (history : History) (issuer : Lei) (places : Option IssuerPlaces) : Type 0 where
-  pub accreditation : IsFirstPlace (is_accreditation_of issuer) history (accreditation_in places)
+  pub accreditation : IsFirstPlace (is_accreditation_of issuer) history (accreditation_place places)
   pub uploads : ArePlaces (is_upload_of issuer) history (uploads_in places)
 
 -- the same for each issuer
@@ -46,14 +46,14 @@ abbrev pub IsIndex : History → Index → Type 0
 IsIndex history index = (issuer : Lei) → IsValid issuer → AreOf history issuer (places_of index issuer)
 
 -- there is room for an entry of the issuer
-pub record HasRoom (index : Index) (issuer : Lei) : Type 0 where
+pub record HasRoomForIssuer (index : Index) (issuer : Lei) : Type 0 where
   pub places : IssuerPlaces
   pub found : places_of index issuer ≡ Some places
   pub spare : vec_len places.uploads < vec_capacity places.uploads
 
 -- nothing that is kept of an issuer was changed, and each issuer with room still has it
-pub record IsSame (old new : Index) : Type 0 where
+pub record IsSameIndex (old new : Index) : Type 0 where
   pub accreditation : (issuer : Lei)
-      → accreditation_in (places_of new issuer) ≡ accreditation_in (places_of old issuer)
+      → accreditation_place (places_of new issuer) ≡ accreditation_place (places_of old issuer)
   pub uploads : (issuer : Lei) → uploads_in (places_of new issuer) ≡ uploads_in (places_of old issuer)
-  pub room : (issuer : Lei) → HasRoom old issuer → HasRoom new issuer
+  pub room : (issuer : Lei) → HasRoomForIssuer old issuer → HasRoomForIssuer new issuer

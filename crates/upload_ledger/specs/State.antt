@@ -9,5 +9,5 @@ pub record LedgerState : Type 0 where
   pub room : Option Text
 
 -- a ledger without entries
-abbrev pub opened : LedgerState
-opened = record { entries = []; room = None }
+abbrev pub empty_ledger : LedgerState
+empty_ledger = record { entries = []; room = None }

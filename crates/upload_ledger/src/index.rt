@@ -3,8 +3,8 @@ ghost use Rattle.std.specs.Prelude.{◌≡◌, ◌<◌, ◌++◌, ◌∷◌, [],
 ghost use Rattle.std.specs.Option.{option_or};
 ghost use Rattle.lei_code.specs.Code.{IsValid};
 ghost use Rattle.lei_outside.specs.declared.entry.KeptEntry.{KeptEntry};
-ghost use Rattle.upload_ledger.specs.History.{is_accreditation_of, numbered};
-ghost use Rattle.upload_ledger.specs.Index.{ArePlaces, HasRoom, IsIndex, IsSame, accreditation_in, places_of, uploads_in};
+ghost use Rattle.upload_ledger.specs.History.{entry_numbered, is_accreditation_of};
+ghost use Rattle.upload_ledger.specs.Index.{ArePlaces, HasRoomForIssuer, IsIndex, IsSameIndex, accreditation_place, places_of, uploads_in};
 
 use crate::kinds::{ACCREDIT, UPLOAD};
 use lei_code::Lei;
@@ -53,7 +53,7 @@ pub fn accreditation<'a>(
 }
 
 fn accreditation_place(index: &Index, issuer: &Lei) -> Option<usize>
-    ensures { result ≡ accreditation_in (places_of index.now issuer.now) }
+    ensures { result ≡ accreditation_place (places_of index.now issuer.now) }
 {
     match index.get(issuer) {
         Some(places) => places.accreditation,
@@ -81,7 +81,7 @@ pub fn entry_at<'a>(
     number: usize,
 ) -> Option<&'a KeptEntry>
     ensures { (test : KeptEntry → Bool) → ArePlaces test entries.now places.now
-        → option_map (λ e. e.now) result ≡ numbered (filter test entries.now) number }
+        → option_map (λ e. e.now) result ≡ entry_numbered (filter test entries.now) number }
 {
     let place = places.get(number.checked_sub(1)?)?;
     entries.get(*place)
@@ -89,8 +89,8 @@ pub fn entry_at<'a>(
 
 // Makes room for one more entry of an office, if it is an issuer.
 pub fn make_room(alloc: Global, index: &mut Index, office: &[u8]) -> Result<(), NoMemory>
-    ensures same { IsSame index.old index.new }
-    ensures room { OnOk result (IsValid office.now → HasRoom index.new office.now) }
+    ensures same { IsSameIndex index.old index.new }
+    ensures room { OnOk result (IsValid office.now → HasRoomForIssuer index.new office.now) }
 {
     match Lei::read(office) {
         Ok(issuer) => make_issuer_room(alloc, index, issuer),
@@ -99,8 +99,8 @@ pub fn make_room(alloc: Global, index: &mut Index, office: &[u8]) -> Result<(), 
 }
 
 fn make_issuer_room(alloc: Global, index: &mut Index, issuer: Lei) -> Result<(), NoMemory>
-    ensures same { IsSame index.old index.new }
-    ensures room { OnOk result (HasRoom index.new issuer) }
+    ensures same { IsSameIndex index.old index.new }
+    ensures room { OnOk result (HasRoomForIssuer index.new issuer) }
 {
     match index.get_mut(&issuer) {
         Some(places) => places.uploads.reserve(1)?,
@@ -112,8 +112,8 @@ fn make_issuer_room(alloc: Global, index: &mut Index, issuer: Lei) -> Result<(),
 // Adds an issuer without any kept entry.
 fn add_issuer(alloc: Global, index: &mut Index, issuer: Lei) -> Result<(), NoMemory>
     requires { places_of index.old issuer ≡ None }
-    ensures same { IsSame index.old index.new }
-    ensures room { OnOk result (HasRoom index.new issuer) }
+    ensures same { IsSameIndex index.old index.new }
+    ensures room { OnOk result (HasRoomForIssuer index.new issuer) }
 {
     let uploads = Vec::with_capacity(alloc, 1)?;
     let places = IssuerPlaces {
@@ -126,7 +126,7 @@ fn add_issuer(alloc: Global, index: &mut Index, issuer: Lei) -> Result<(), NoMem
 
 // Notes the place of the entry, which is after the others.
 pub fn note(index: &mut Index, entries: &[KeptEntry], entry: &KeptEntry)
-    requires room { IsValid entry.now.office → HasRoom index.old entry.now.office }
+    requires room { IsValid entry.now.office → HasRoomForIssuer index.old entry.now.office }
     requires index { IsIndex entries.now index.old }
     ensures index { IsIndex (entries.now ++ entry.now ∷ []) index.new }
 {

@@ -1,9 +1,9 @@
 //! The ledger: the entries of a history, with an index by issuer.
 ghost use Rattle.std.specs.Prelude.{◌≡◌, ◌≤◌, ◌<◌, if◌then◌else◌, vec_len, vec_capacity, ◌++◌, ◌∷◌, [], Ok, Some, None, OnOk, OnErr, option_map};
-ghost use Rattle.upload_ledger.specs.History.{accredited, is_accreditation, is_publication, kept, last, next_number, numbered, place, publications, published, totals, upload_at};
+ghost use Rattle.upload_ledger.specs.History.{accredited, entry_numbered, is_accreditation, is_publication, kept, last, next_number, place, publications, published, totals, upload_at};
 ghost use Rattle.upload_ledger.specs.Limits.{AreFew};
 ghost use Rattle.upload_ledger.specs.Places.{IsPlace};
-ghost use Rattle.upload_ledger.specs.State.{opened};
+ghost use Rattle.upload_ledger.specs.State.{empty_ledger};
 
 use crate::index::{Index, accreditation, entry_at, make_room, note, uploads};
 use crate::kinds::{ACCREDIT, PUBLISH};
@@ -35,18 +35,18 @@ impl Model for Ledger {
 
     ghost Value = { LedgerState };
 
-    ghost use Rattle.upload_ledger.specs.Ledgers.{IsKept};
+    ghost use Rattle.upload_ledger.specs.Ledgers.{IsLedger};
 
     ghost view = { λ ledger. record
         { entries = ledger.entries.items; room = option_map (λ s. s.value) ledger.room } };
 
-    ghost invariant = { IsKept };
+    ghost invariant = { IsLedger };
 }
 
 impl Ledger {
     /// A ledger without entries. It takes no memory yet.
     pub fn new(alloc: Global) -> Result<Self, NoMemory>
-        ensures { result ≡ Ok opened }
+        ensures { result ≡ Ok empty_ledger }
     {
         Ok(Ledger {
             alloc,
@@ -135,7 +135,7 @@ impl Ledger {
     }
 
     fn publication_at(&self, number: u32) -> Option<&KeptEntry>
-        ensures { option_map (λ e. e.now) result ≡ numbered (publications self.now.entries) number }
+        ensures { option_map (λ e. e.now) result ≡ entry_numbered (publications self.now.entries) number }
     {
         entry_at(
             self.entries.as_slice(),

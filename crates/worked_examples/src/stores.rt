@@ -73,14 +73,18 @@ fn entries_with(
 ) -> Result<List<KeptEntry>, NoMemory> {
     let mut list = Vec::new(alloc);
     for entry in entries {
-        let mut entry = changed(alloc, entry.copy(alloc)?, run.changes())?;
+        let mut entry = change_entry(alloc, entry.copy(alloc)?, run.changes())?;
         entry.rules = rules_with(entry.seq, entry.rules, run.rules());
         list.push(entry)?;
     }
     Ok(List::from(list))
 }
 
-fn changed(alloc: Global, mut entry: KeptEntry, changes: &[Change]) -> Result<KeptEntry, NoMemory> {
+fn change_entry(
+    alloc: Global,
+    mut entry: KeptEntry,
+    changes: &[Change],
+) -> Result<KeptEntry, NoMemory> {
     for change in changes {
         if u64::from(change.entry) == entry.seq {
             entry.answer = Bytes::copy_of(alloc, change.answer.as_slice())?;

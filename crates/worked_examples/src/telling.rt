@@ -61,7 +61,7 @@ fn passes<R: Print + AllocGlobal + Threads + Sync>(
     let trial = Trial { file, title, size };
     let mut stores: Vec<Store> = Vec::new(alloc);
     for run in session.runs() {
-        let came = told(came_in_memory(rt, alloc, run, size, &mut stores))?;
+        let came = or_io_error(came_in_memory(rt, alloc, run, size, &mut stores))?;
         if !is_wanted(rt, alloc, trial, run, &came)? {
             return Ok(false);
         }
@@ -70,7 +70,7 @@ fn passes<R: Print + AllocGlobal + Threads + Sync>(
 }
 
 // What came of a run. Without memory, or where a store can't be changed or handed on, nothing is told of the others.
-fn told(came: Result<Came, KeepFault>) -> io::Result<Came> {
+fn or_io_error(came: Result<Came, KeepFault>) -> io::Result<Came> {
     match came {
         Ok(came) => Ok(came),
         Err(KeepFault::NoMemory) => Err(io::ErrorKind::OutOfMemory.into()),

@@ -8,4 +8,4 @@ pub returns : goal.returns
 returns c =
     lines-found delta_names delta_names_are c.args.sheet c.args.bytes.now c.deref.result.now c.deref-2.result.now
     (c.deref.ensures.value ∙ c.in_ok-narrow.ensures) (c.deref-2.ensures.value ∙ c.in_ok-wide.ensures)
-    (read_lines c.lines_behind.result) c.lines_behind.ensures
+    (read_lines c.lines_after_head.result) c.lines_after_head.ensures

@@ -1,9 +1,9 @@
 use Rattle.std.proofs.Common.{◌≡◌, ℕ, ◌+◌, List, ◌∷◌, [], ◌++◌, true, false, drop, map, take, sym, ap, subst, ◌∙◌, take-append-drop}
 use Rattle.std.proofs.lemmas.Bool.{false≢true}
 use Rattle.std.proofs.lemmas.List.{drop_more, take_more}
-use Rattle.copy_csv.specs.Rows.{AreRising}
+use Rattle.copy_csv.specs.Rows.{KeysRise}
 use Rattle.copy_csv.specs.Sheets.{SheetRow, key}
-use Rattle.copy_csv.specs.Taking.{is_behind}
+use Rattle.copy_csv.specs.Taking.{is_after_all}
 use Rattle.copy_csv.proofs.RowLemmas.{behind_last, rising-nil, rising-push}
 use Rattle.copy_csv.proofs.csv_rows.are_rows_rising.Goals as goal
 
@@ -15,23 +15,23 @@ loop-index-preserved c =
     let index : ℕ = c.loop-index.index in
     let xs : List SheetRow = c.args.rows.now in
     let x : SheetRow = c.index-rows-index.result in
-    let behind : is_behind key (take index xs) x ≡ true =
-    sym c.is_row_behind.ensures ∙ c.if-not-is_row_behind.false in
+    let behind : is_after_all key (take index xs) x ≡ true =
+    sym c.row_is_after.ensures ∙ c.if-not-row_is_after.false in
     let longer : take (index + 1) xs ≡ take index xs ++ x ∷ [] =
     take_more xs index x c.loop-index-test.true ∙ ap (λ y. take index xs ++ y ∷ []) (sym c.index-rows-index.is) in
-    subst (λ (l : List SheetRow). AreRising (map key l)) (sym longer) (rising-push key (take index xs) x c.loop-index.invariant behind)
+    subst (λ (l : List SheetRow). KeysRise (map key l)) (sym longer) (rising-push key (take index xs) x c.loop-index.invariant behind)
 
-pub returns-then-not-is_row_behind : goal.returns-then-not-is_row_behind
-returns-then-not-is_row_behind c =
+pub returns-then-not-row_is_after : goal.returns-then-not-row_is_after
+returns-then-not-row_is_after c =
     let index : ℕ = c.loop-index.index in
     let xs : List SheetRow = c.args.rows.now in
     let x : SheetRow = c.index-rows-index.result in
-    let behind : is_behind key (take index xs) x ≡ false =
-    sym c.is_row_behind.ensures ∙ c.if-not-is_row_behind.true in
+    let behind : is_after_all key (take index xs) x ≡ false =
+    sym c.row_is_after.ensures ∙ c.if-not-row_is_after.true in
     let all : xs ≡ take index xs ++ x ∷ drop (index + 1) xs =
     sym (take-append-drop index xs)
     ∙ ap (λ l. take index xs ++ l) (drop_more xs index x c.loop-index-test.true ∙ ap (λ y. y ∷ drop (index + 1) xs) (sym c.index-rows-index.is)) in (
       λ e. absurd (false≢true e),
       λ rising. sym behind ∙ behind_last key (take index xs) x (drop (index + 1) xs)
-          (subst (λ (l : List SheetRow). AreRising (map key l)) all rising),
+          (subst (λ (l : List SheetRow). KeysRise (map key l)) all rising),
     )

@@ -1,8 +1,8 @@
 use Rattle.std.proofs.Common.{map, take}
-use Rattle.copy_csv.specs.Rows.{AreRising}
+use Rattle.copy_csv.specs.Rows.{KeysRise}
 use Rattle.copy_csv.specs.Sheets.{key}
 use Rattle.copy_csv.proofs.csv_rows.are_rows_rising.Given as goal
 
 -- the keys so far rise
 abbrev pub invariant-loop-index : goal.invariant-loop-index
-invariant-loop-index l = AreRising (map key (take l.index l.rows))
+invariant-loop-index l = KeysRise (map key (take l.index l.rows))

@@ -1,9 +1,9 @@
 use Rattle.std.proofs.Common.{◌≡◌, ◌<◌, ◌≤◌, ℕ, List, length, take, refl, sym, ap, ◌∙◌, arith}
 use Rattle.std.proofs.lemmas.List.{length-set}
 use Rattle.lei_code.specs.Texts.{Text}
-use Rattle.copy_csv.specs.Sheets.{names, width}
+use Rattle.copy_csv.specs.Sheets.{column_names, width}
 use Rattle.lei_records.specs.Sheets.{read_texts}
-use Rattle.copy_csv.proofs.LineLemmas.{names-full}
+use Rattle.copy_csv.proofs.LineLemmas.{column_names-full}
 use Rattle.copy_csv.proofs.RecordLemmas.{lent-all, lent-step, width-most}
 use Rattle.copy_csv.proofs.csv_text.names_of.Goals as goal
 
@@ -12,9 +12,9 @@ loop-index-init c = (refl, refl)
 
 pub loop-index-preserved : goal.loop-index-preserved
 loop-index-preserved c =
-    let xs : List Text = names c.args.sheet in
+    let xs : List Text = column_names c.args.sheet in
     let index : ℕ = c.loop-index.index in
-    let full : length xs ≡ width c.args.sheet = names-full c.args.sheet in
+    let full : length xs ≡ width c.args.sheet = column_names-full c.args.sheet in
     let end : c.width-index-end.result ≡ width c.args.sheet = c.width-index-end.ensures in
     let most : width c.args.sheet ≤ 32 = width-most c.args.sheet in
     let before : index < c.width-index-end.result = c.loop-index-test.true in
@@ -26,8 +26,8 @@ loop-index-preserved c =
 
 pub returns : goal.returns
 returns c =
-    let xs : List Text = names c.args.sheet in
-    let full : length xs ≡ width c.args.sheet = names-full c.args.sheet in
+    let xs : List Text = column_names c.args.sheet in
+    let full : length xs ≡ width c.args.sheet = column_names-full c.args.sheet in
     let end : c.width-index-end.result ≡ width c.args.sheet = c.width-index-end.ensures in
     let after : c.width-index-end.result ≤ c.loop-index.index = c.loop-index-test.false in
     let within : c.loop-index.index ≤ c.width-index-end.result = c.loop-index.auto.index-end in

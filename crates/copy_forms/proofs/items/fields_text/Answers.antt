@@ -1,7 +1,7 @@
 use Rattle.std.proofs.Common.{◌<◌, ◌≤◌, ◌++◌, ap, get_or, length, subst, ◌∙◌}
 use Rattle.json.specs.Print.{print}
 use Rattle.copy_forms.specs.Json.{json_places}
-use Rattle.copy_csv.specs.Sheets.{row_of}
+use Rattle.copy_csv.specs.Sheets.{row_of_texts}
 use Rattle.copy_forms.proofs.JsonPrinting.{place-within, print-record, tokens-all, tokens-more}
 use Rattle.copy_forms.proofs.items.fields_text.Goals as goal
 
@@ -26,13 +26,13 @@ loop-place-preserved c =
     let here = c.from.ensures ∙ ap (λ l. get_or l c.loop-place.place-index 0) table in
     record {
       alone = c.in_ok-put_field.ensures.before ∙ c.loop-place.invariant.alone;
-      so_far = tokens-more (row_of c.args.sheet c.args.texts.now) c.loop-place.out.tokens c.put_field.new.out.tokens _ c.loop-place.place-index c.from.result c.loop-place.invariant.so_far within here
+      so_far = tokens-more (row_of_texts c.args.sheet c.args.texts.now) c.loop-place.out.tokens c.put_field.new.out.tokens _ c.loop-place.place-index c.from.result c.loop-place.invariant.so_far within here
           c.in_ok-put_field.ensures.tokens;
     }
 
 pub returns : goal.returns
 returns c =
-    let row = row_of c.args.sheet c.args.texts.now in
+    let row = row_of_texts c.args.sheet c.args.texts.now in
     let past = subst (λ l. length l ≤ c.loop-place.place-index) c.places-place-items.ensures c.loop-place-test.false in
     let done = tokens-all row c.loop-place.out.tokens c.end_object.new.self.tokens _ c.loop-place.place-index c.loop-place.invariant.so_far past c.in_ok-end_object.ensures.ok in
     let alone = c.end_object.ensures.room.0 ∙ c.loop-place.invariant.alone in

@@ -4,5 +4,5 @@ use Rattle.copy_forms.proofs.JsonFields.{fields-taken}
 use Rattle.copy_forms.proofs.JsonRecords.{length-names}
 use Rattle.copy_forms.proofs.json_read.record_from.Goals as goal
 
-pub placed-requires : goal.placed-requires
-placed-requires c = (fields-taken (json_names c.args.sheet) false _ _ _ c.in_ok-texts.ensures).long ∙ length-names c.args.sheet
+pub row_by_names-requires : goal.row_by_names-requires
+row_by_names-requires c = (fields-taken (json_names c.args.sheet) false _ _ _ c.in_ok-texts.ensures).long ∙ length-names c.args.sheet

@@ -7,7 +7,7 @@ use Rattle.copy_csv.specs.declared.rows.Change.{Change}
 use Rattle.copy_csv.specs.Csv.{row_line}
 use Rattle.copy_csv.specs.Rows.{IsRowIn}
 use Rattle.copy_csv.specs.Sheets.{SheetRow, key}
-use Rattle.copy_csv.specs.Taking.{Reads}
+use Rattle.copy_csv.specs.Taking.{ReadsNext}
 use Rattle.copy_csv.proofs.LineLemmas.{row-one_way, row-some}
 use Rattle.copy_csv.proofs.RowLemmas.{shorter}
 use Rattle.copy_forms.specs.Merging.{PassesRow, put_by}
@@ -23,7 +23,7 @@ loop-reader-init c =
 
 pub returns-in-None-clause-only : goal.returns-in-None-clause-only
 returns-in-None-clause-only c = λ err.
-    let F : Option SheetRow → Type 0 = λ x. Reads (row_line c.args.base_wide) (IsRowIn c.args.sheet c.args.base_wide) c.loop-reader.reader x c.read_row.new.reader in
+    let F : Option SheetRow → Type 0 = λ x. ReadsNext (row_line c.args.base_wide) (IsRowIn c.args.sheet c.args.base_wide) c.loop-reader.reader x c.read_row.new.reader in
     let none : F None = subst F c.in-None.is c.in_ok-row.ensures.read in
     let done : (length c.loop-reader.reader == 0) ≡ false = sym c.is_done.ensures ∙ c.loop-reader-test.true in
     walk-unread c.args.sheet c.args.base_wide c.args.delta.now.wide c.args.bytes.now c.args.delta.now.changes c.args.out.now.items c.loop-reader.reader c.loop-reader.last c.loop-reader.next
@@ -31,27 +31,27 @@ returns-in-None-clause-only c = λ err.
 
 pub follows-requires : goal.follows-requires
 follows-requires c = λ other is.
-    let F : Option SheetRow → Type 0 = λ x. Reads (row_line c.args.base_wide) (IsRowIn c.args.sheet c.args.base_wide) c.loop-reader.reader x c.read_row.new.reader in
+    let F : Option SheetRow → Type 0 = λ x. ReadsNext (row_line c.args.base_wide) (IsRowIn c.args.sheet c.args.base_wide) c.loop-reader.reader x c.read_row.new.reader in
     let read : F (Some c.in-Some.row) = subst F c.in-Some.is c.in_ok-row.ensures.read in
     walk-last c.args.sheet c.args.base_wide c.args.delta.now.wide c.args.bytes.now c.args.delta.now.changes c.args.out.now.items c.loop-reader.reader c.loop-reader.last c.loop-reader.next
     c.loop-reader.out.items c.loop-reader.invariant other is ∙ sym read.1.0.1
 
 pub returns-then-not-follows-clause-only : goal.returns-then-not-follows-clause-only
 returns-then-not-follows-clause-only c = λ err.
-    let F : Option SheetRow → Type 0 = λ x. Reads (row_line c.args.base_wide) (IsRowIn c.args.sheet c.args.base_wide) c.loop-reader.reader x c.read_row.new.reader in
+    let F : Option SheetRow → Type 0 = λ x. ReadsNext (row_line c.args.base_wide) (IsRowIn c.args.sheet c.args.base_wide) c.loop-reader.reader x c.read_row.new.reader in
     let read : F (Some c.in-Some.row) = subst F c.in-Some.is c.in_ok-row.ensures.read in
     walk-falls c.args.sheet c.args.base_wide c.args.delta.now.wide c.args.bytes.now c.args.delta.now.changes c.args.out.now.items c.loop-reader.reader c.loop-reader.last c.loop-reader.next
     c.loop-reader.out.items c.loop-reader.invariant c.in-Some.row c.read_row.new.reader read (sym c.follows.ensures ∙ c.if-not-follows.true)
 
 pub loop-reader-smaller : goal.loop-reader-smaller
 loop-reader-smaller c =
-    let F : Option SheetRow → Type 0 = λ x. Reads (row_line c.args.base_wide) (IsRowIn c.args.sheet c.args.base_wide) c.loop-reader.reader x c.read_row.new.reader in
+    let F : Option SheetRow → Type 0 = λ x. ReadsNext (row_line c.args.base_wide) (IsRowIn c.args.sheet c.args.base_wide) c.loop-reader.reader x c.read_row.new.reader in
     let read : F (Some c.in-Some.row) = subst F c.in-Some.is c.in_ok-row.ensures.read in
     shorter (row_line c.args.base_wide) (IsRowIn c.args.sheet c.args.base_wide) key (row-one_way c.args.sheet c.args.base_wide) (row-some c.args.sheet c.args.base_wide) c.in-Some.row c.loop-reader.reader c.read_row.new.reader read
 
 pub loop-reader-preserved : goal.loop-reader-preserved
 loop-reader-preserved c =
-    let F : Option SheetRow → Type 0 = λ x. Reads (row_line c.args.base_wide) (IsRowIn c.args.sheet c.args.base_wide) c.loop-reader.reader x c.read_row.new.reader in
+    let F : Option SheetRow → Type 0 = λ x. ReadsNext (row_line c.args.base_wide) (IsRowIn c.args.sheet c.args.base_wide) c.loop-reader.reader x c.read_row.new.reader in
     let read : F (Some c.in-Some.row) = subst F c.in-Some.is c.in_ok-row.ensures.read in
     let G : Option SheetRow → Type 0 = λ x. IsSome x → IsUtf8 c.read_row.new.reader in
     let utf8 : G (Some c.in-Some.row) = subst G c.in-Some.is c.in_ok-row.ensures.utf8 in

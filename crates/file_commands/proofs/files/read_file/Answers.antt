@@ -19,9 +19,9 @@ loop-file-preserved g c =
       kept = c.in_ok-count.ensures.kept ∙ c.loop-file.invariant.kept;
     }
 
-pub returns-in_err-put_behind-clause-stops : goal.returns-in_err-put_behind-clause-stops
-returns-in_err-put_behind-clause-stops g c =
+pub returns-in_err-append-clause-stops : goal.returns-in_err-append-clause-stops
+returns-in_err-append-clause-stops g c =
     let fills = c.in_ok-count.ensures.ok in
-    stops-short _ _ _ c.from_residual-in_err-put_behind.ensures.1
+    stops-short _ _ _ c.from_residual-in_err-append.ensures.1
     (read-short _ _ _ (reads-more _ _ _ _ _ c.loop-file.invariant.so_far fills.3
     (omega (arith, fills.1, fills.2, c.loop-file.invariant.so_far.short, c.if-len-count-eq-MAX_FILE.false))))

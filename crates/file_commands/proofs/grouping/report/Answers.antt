@@ -1,6 +1,6 @@
 use Rattle.std.proofs.Common.{Err, ap, subst}
 use Rattle.register_words.specs.declared.sheets.Sheet.{Sheet}
-use Rattle.group_reports.specs.Links.{IsRefusal}
+use Rattle.group_reports.specs.Links.{IsGroupFault}
 use Rattle.file_commands.proofs.Grouped.{heads_read, other_publication, reports_by, rows_read, some_copy}
 use Rattle.file_commands.proofs.grouping.report.Goals as goal
 
@@ -24,7 +24,7 @@ returns-in-Ok-open c =
 
 pub returns-in-Err-OtherPublication : goal.returns-in-Err-OtherPublication
 returns-in-Err-OtherPublication c =
-    let refusal = subst (IsRefusal c.in-Ok.copy.head c.in-Ok-read_copy.copy.head) c.in-Err-OtherPublication.field-0-is
+    let refusal = subst (IsGroupFault c.in-Ok.copy.head c.in-Ok-read_copy.copy.head) c.in-Err-OtherPublication.field-0-is
     c.in-Err-OtherPublication.ensures.refusal in
     other_publication c.args.who.now c.args.form c.args.lei.now c.args.rr.now c.in-Ok.copy c.in-Ok-read_copy.copy
     c.in-Err-OtherPublication.p c.in-Err-OtherPublication.q c.in-Ok.ensures.found c.in-Ok-read_copy.ensures.found refusal

@@ -1,7 +1,7 @@
 use Rattle.std.proofs.Common.{ap, length, arith, ◌∙◌, ◌<◌}
 use Rattle.std.specs.List.{slice_index_or}
 use Rattle.std.proofs.lemmas.List.{length-set}
-use Rattle.golden_shelf.specs.Sides.{note_of, notes_of}
+use Rattle.golden_shelf.specs.Sides.{note_change, notes_of}
 use Rattle.golden_shelf.proofs.WeaveSteps.{length_notes, left_step, next_left, take_step, took, walk_step, walked}
 use Rattle.golden_shelf.proofs.weaving.weave_all.Goals as goal
 
@@ -20,7 +20,7 @@ loop-index-preserved c =
     let len = c.weave_one.ensures.len in
     let set = length-set c.loop-index.notes c.loop-index.index c.weave_one.new.note in
     record {
-      walk = walk_step c.args.rows.now.lines c.loop-index.rows.lines c.loop-index.rest.lines c.weave_one.new.rows.lines c.weave_one.new.rest.lines all _ _ (note_of x) i.walk next
+      walk = walk_step c.args.rows.now.lines c.loop-index.rows.lines c.loop-index.rest.lines c.weave_one.new.rows.lines c.weave_one.new.rest.lines all _ _ (note_change x) i.walk next
           c.weave_one.ensures.rows c.weave_one.ensures.rest;
       takes = take_step c.args.rows.now.lines c.loop-index.rest.lines c.weave_one.new.rest.lines c.loop-index.notes all _ _ c.loop-index.index x c.weave_one.new.note lt
           i.takes next c.weave_one.ensures.rest c.weave_one.ensures.key c.weave_one.ensures.texts;

@@ -1,7 +1,7 @@
 use Rattle.std.proofs.Common.{rules, ◌<◌, length, subst, sym}
 use Rattle.std.specs.List.{All}
 use Rattle.std.proofs.lemmas.List.Elements.{All-push}
-use Rattle.group_reports.specs.Arcs.{IsWithin}
+use Rattle.group_reports.specs.Arcs.{HasPlacesBelow}
 use Rattle.group_reports.proofs.ArcLemmas.{links_push, row_end, row_start}
 use Rattle.group_reports.proofs.arcs.arcs_of.Goals as goal
 
@@ -21,6 +21,6 @@ loop-row-preserved c =
     record {
       links = links_push c.args.places.now c.args.rows.now c.loop-row.row-index c.row-item.result c.loop-row.made.items c.push.new.self.items
           c.arc_of.result within c.row-item.is c.loop-row.invariant.links c.in_ok-push.ensures.items c.arc_of.ensures.link;
-      within = subst (All (IsWithin (length c.args.places.now))) (sym c.in_ok-push.ensures.items)
-          (All-push (IsWithin (length c.args.places.now)) c.loop-row.made.items c.arc_of.result c.loop-row.invariant.within c.arc_of.ensures.within);
+      within = subst (All (HasPlacesBelow (length c.args.places.now))) (sym c.in_ok-push.ensures.items)
+          (All-push (HasPlacesBelow (length c.args.places.now)) c.loop-row.made.items c.arc_of.result c.loop-row.invariant.within c.arc_of.ensures.within);
     }

@@ -1,7 +1,7 @@
 use Rattle.std.proofs.Common.{◌≡◌, [], arith, rules, subst}
 use Rattle.sqlite.specs.Held.{state}
 use Rattle.sqlite.specs.State.{HasCleanDisk, Survives}
-use Rattle.store_tables.specs.Calls.{IsWhole}
+use Rattle.store_tables.specs.Calls.{IsWholeStore}
 use Rattle.keeper_sqlite.specs.Transactions.{HasMoved, IsMoved}
 use Rattle.keeper_sqlite.proofs.StoreLemmas.{moved_after, moved_survives}
 use Rattle.keeper_sqlite.proofs.moving.move_cells.Goals as goal
@@ -26,7 +26,7 @@ returns-clause-survives g c =
 
 pub returns-clause-moved : goal.returns-clause-moved
 returns-clause-moved g c =
-    subst (λ h. HasCleanDisk (state g.S.Store h) → IsWhole (state g.S.Store c.args.conn.now)
+    subst (λ h. HasCleanDisk (state g.S.Store h) → IsWholeStore (state g.S.Store c.args.conn.now)
     → (state g.S.Store c.args.conn.now).now.trees 4 ≡ []
     → HasMoved (state g.S.Store c.args.conn.now) (state g.S.Store h)) {x = c.commit.new.self.0}
     {y = c.conn-2-1.given.0} (search rules)

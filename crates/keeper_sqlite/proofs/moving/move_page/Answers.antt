@@ -1,7 +1,7 @@
 use Rattle.std.proofs.Common.{◌≡◌, ◌∙◌, Some, ap, arith, rules, sym}
 use Rattle.sqlite.specs.Held.{state}
 use Rattle.sqlite.specs.State.{HasCleanDisk}
-use Rattle.store_tables.specs.Calls.{Copies, last_id}
+use Rattle.store_tables.specs.Calls.{MovesPage, last_id}
 use Rattle.store_tables.proofs.MoveLemmas.{carries_none, carries_page, no_last}
 use Rattle.keeper_sqlite.proofs.moving.move_page.Goals as goal
 
@@ -16,7 +16,7 @@ returns-in-Some-clause-carries g c clean inside =
     let new = state g.S.Store c.copy_page.new.tx.conn.now in
     let copied = rw c.as_slice-in-Some.ensures.value
     at (c.in_ok-copy_page-in-Some.ensures.copies clean read.inside.mode read.inside.is_open) in
-    let copies : Copies c.in_ok-page.page.items c.in-Some.last mid new = search rules in
+    let copies : MovesPage c.in_ok-page.page.items c.in-Some.last mid new = search rules in
     carries_page (state g.S.Store c.args.tx.now.conn.now) (state g.S.Store c.read_page.new.tx.conn.now)
     (state g.S.Store c.copy_page.new.tx.conn.now) c.in_ok-page.page.items c.in-Some.last read is
     copies

@@ -9,8 +9,8 @@ returns-then-not-are_parts-clause-err c = λ failed name p q.
 
 pub returns-clause-lei : goal.returns-clause-lei
 returns-clause-lei c = lei_again _ _ _ _ c.in_ok-lei.ensures.ok (c.are_parts.ensures.0 (search rules))
-    c.in_ok-joined.ensures
+    c.in_ok-join_name.ensures
 
 pub returns-clause-rest : goal.returns-clause-rest
 returns-clause-rest c = rest_again _ _ _ _ c.in_ok-rest.ensures.ok (c.are_parts.ensures.0 (search rules))
-    c.in_ok-joined.ensures
+    c.in_ok-join_name.ensures

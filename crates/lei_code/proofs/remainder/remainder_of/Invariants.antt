@@ -1,11 +1,11 @@
 use Rattle.std.proofs.Common.{◌≡◌, ◌%◌, ◌≤◌, ℕ, take}
 use Rattle.std.specs.Prelude.{IsTrue}
 use Rattle.lei_code.specs.Number.{number}
-use Rattle.lei_code.specs.Code.{may_stand, character}
+use Rattle.lei_code.specs.Code.{may_be_at, character}
 use Rattle.lei_code.proofs.remainder.remainder_of.Given as goal
 
 abbrev pub invariant-loop-index : goal.invariant-loop-index
 invariant-loop-index l = record {
   remainder : l.remainder ≡ number (take l.index l.text) % 97;
-  well_formed : (place : ℕ) → 1 ≤ place → place ≤ l.index → IsTrue (may_stand place (character l.text place));
+  well_formed : (place : ℕ) → 1 ≤ place → place ≤ l.index → IsTrue (may_be_at place (character l.text place));
 }

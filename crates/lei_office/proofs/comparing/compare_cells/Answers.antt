@@ -2,7 +2,7 @@ use Rattle.std.proofs.Common.{◌≡◌, ◌≤◌, ◌+◌, ◌-◌, ◌*◌, �
 use Rattle.std.specs.Prelude.{IfSome}
 use Rattle.register_history.specs.Damage.{IsCellDamage, kept_page, made_page, page_bounds}
 use Rattle.register_history.specs.Register.{held_after}
-use Rattle.register_history.specs.Standing.{AllStand}
+use Rattle.register_history.specs.Standing.{AreRowCells}
 use Rattle.register_history.proofs.Stored.{held-stands}
 use Rattle.lei_office.specs.Opening.{Compares}
 use Rattle.lei_office.proofs.ComparedPages.{all-agree, leaves-join, page-agrees, page-differs, stays-join, stays-told}
@@ -46,7 +46,7 @@ returns-clause-compares g c =
     let most = c.entries.ensures.few.entries in
     let office = c.args.register.now in
     let held = held_after office.limits office.history in
-    let stand = subst (λ n. AllStand n held) (sym count) (held-stands office.limits office.history c.entries.ensures.legal) in
+    let stand = subst (λ n. AreRowCells n held) (sym count) (held-stands office.limits office.history c.entries.ensures.legal) in
     let n = (last + 16 - 1) / 16 in
     let ended : c.loop-page.page ≡ n + 1 = omega (arith, c.loop-page-test.false, c.loop-page.auto.page-end) in
     let all : last ≤ 16 * n = omega arith in

@@ -1,6 +1,6 @@
 use Rattle.std.proofs.Common.{◌≡◌}
 use Rattle.std.specs.Prelude.{IfSome}
-use Rattle.lei_outside.specs.Keeping.{LeavesNoMore, Stays}
+use Rattle.lei_outside.specs.Keeping.{LeavesNoMore, TablesStay}
 use Rattle.register_history.specs.Register.{held_after}
 use Rattle.register_history.proofs.Pages.{PagesAgree}
 use Rattle.lei_office.proofs.comparing.compare_cells.Given as goal
@@ -11,7 +11,7 @@ invariant-loop-page g l =
     let leaves = g.K.Keeper.leaves in
     let faults = g.K.Keeper.faults in
     record {
-      stays : Stays (tables l.fn.keeper) (tables l.keeper);
+      stays : TablesStay (tables l.fn.keeper) (tables l.keeper);
       crash : LeavesNoMore (leaves l.fn.keeper) (leaves l.keeper);
       faultless : faults l.keeper ≡ faults l.fn.keeper;
       agree : IfSome (tables l.keeper) (λ told. PagesAgree l.last (held_after l.register.limits l.register.history) told l.page);

@@ -1,6 +1,6 @@
 use Rattle.std.proofs.Common.{◌≡◌, ◌≤◌, ◌-◌}
 use Rattle.std.specs.Prelude.{IfSome}
-use Rattle.lei_outside.specs.Keeping.{LeavesNoMore, Stays}
+use Rattle.lei_outside.specs.Keeping.{LeavesNoMore, TablesStay}
 use Rattle.register_history.specs.Legal.{Legal}
 use Rattle.lei_office.proofs.ReplayedPages.{Reached}
 use Rattle.lei_office.proofs.opening.replay_entries.Given as goal
@@ -14,7 +14,7 @@ invariant-loop-after g l =
       limits : l.register.limits ≡ l.fn.register.limits;
       legal : Legal l.register;
       within : l.after ≤ l.last;
-      stays : Stays (tables l.fn.keeper) (tables l.keeper);
+      stays : TablesStay (tables l.fn.keeper) (tables l.keeper);
       crash : LeavesNoMore (leaves l.fn.keeper) (leaves l.keeper);
       faultless : faults l.keeper ≡ faults l.fn.keeper;
       reached : IfSome (tables l.keeper) (Reached l.last l.after l.register.history);

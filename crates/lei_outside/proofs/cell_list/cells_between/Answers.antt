@@ -4,4 +4,4 @@ use Rattle.lei_outside.proofs.CellLemmas.{all_between}
 use Rattle.lei_outside.proofs.cell_list.cells_between.Goals as goal
 
 pub returns : goal.returns
-returns c = all_between c.args.after c.args.upto c.in_ok-places.places.entries (put_cells empty c.args.cells.now) c.told.result c.told.ensures.ordered c.in_ok-places.ensures c.told.ensures.told
+returns c = all_between c.args.after c.args.upto c.in_ok-places.places.entries (put_cells empty c.args.cells.now) c.list_between.result c.list_between.ensures.ordered c.in_ok-places.ensures c.list_between.ensures.told

@@ -1,5 +1,5 @@
-use Rattle.lei_records.proofs.RowLemmas.{IsRowOf-row_of}
+use Rattle.lei_records.proofs.RowLemmas.{IsRowOfKind-row_of}
 use Rattle.lei_records.proofs.laws.good_items_have_rows.Goals as goal
 
 pub returns : goal.returns
-returns c = IsRowOf-row_of
+returns c = IsRowOfKind-row_of

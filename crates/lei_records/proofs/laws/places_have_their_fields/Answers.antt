@@ -2,11 +2,11 @@ use Rattle.std.proofs.Common.{refl}
 use Rattle.std.specs.Prelude.{IsTrue}
 use Rattle.std.specs.List.{list_all}
 use Rattle.lei_records.specs.declared.fields.Kind.{Kind}
-use Rattle.lei_records.specs.Fields.{exception_fields, fields, has_name, relation_fields}
+use Rattle.lei_records.specs.Fields.{exception_fields, field_has_name, fields, relation_fields}
 use Rattle.lei_records.specs.Places.{named_places}
 use Rattle.lei_records.proofs.laws.places_have_their_fields.Goals as goal
 
-named : (kind : Kind) → IsTrue (list_all (has_name kind) (named_places kind))
+named : (kind : Kind) → IsTrue (list_all (field_has_name kind) (named_places kind))
 unfolding fields relation_fields exception_fields
 named Kind.Record = refl
 named Kind.Relation = refl

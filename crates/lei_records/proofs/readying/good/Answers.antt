@@ -1,11 +1,11 @@
 use Rattle.std.proofs.Common.{subst, sym, ◌∙◌}
 use Rattle.std.proofs.lemmas.List.{length-map}
 use Rattle.lei_records.specs.Sheets.{read_texts}
-use Rattle.lei_records.specs.Spelled.{IsRowOf}
-use Rattle.lei_records.proofs.RowLemmas.{IsRowOf-printed_at}
+use Rattle.lei_records.specs.Spelled.{IsRowOfKind}
+use Rattle.lei_records.proofs.RowLemmas.{IsRowOfKind-printed_at}
 use Rattle.lei_records.proofs.readying.good.Goals as goal
 
 pub item_of-requires : goal.item_of-requires
 item_of-requires c =
-    subst (IsRowOf c.args.kind) (sym c.requires.row)
-    (IsRowOf-printed_at c.args.rules c.args.kind (read_texts c.args.texts.now) (length-map c.args.texts.now (λ text. text.now) ∙ c.requires.places) c.requires.present c.requires.shaped c.requires.checked)
+    subst (IsRowOfKind c.args.kind) (sym c.requires.row)
+    (IsRowOfKind-printed_at c.args.rules c.args.kind (read_texts c.args.texts.now) (length-map c.args.texts.now (λ text. text.now) ∙ c.requires.places) c.requires.present c.requires.shaped c.requires.checked)

@@ -1,15 +1,15 @@
 use Rattle.std.proofs.Common.{◌-◌, ◌≤◌, ◌<◌, length, drop, refl, sym, ap, ◌∙◌, arith}
 use Rattle.std.proofs.Math.Seq.{drop-length}
-use Rattle.lei_records.specs.Sheets.{first_unknown, texts_of}
+use Rattle.lei_records.specs.Sheets.{first_unknown, texts_by_place}
 use Rattle.lei_records.proofs.PairLemmas.{pair_at}
-use Rattle.lei_records.proofs.SheetLemmas.{texts_of-none, placed_known, placed_unknown, told_placed, told_unknown}
+use Rattle.lei_records.proofs.SheetLemmas.{texts_by_place-none, placed_known, placed_unknown, told_placed, told_unknown}
 use Rattle.lei_records.proofs.sheet.sheet_of.Goals as goal
 
 pub loop-index-init : goal.loop-index-init
 loop-index-init c =
     let none = ap (λ n. drop n c.args.fields.now) c.len-index.ensures.value ∙ drop-length c.args.fields.now in
     record {
-      texts = texts_of-none c.args.kind ∙ sym (ap (texts_of c.args.kind) none);
+      texts = texts_by_place-none c.args.kind ∙ sym (ap (texts_by_place c.args.kind) none);
       unknown = sym (ap (first_unknown c.args.rules c.args.kind) none);
     }
 

@@ -1,6 +1,6 @@
 use Rattle.std.proofs.Common.{◌≡◌, ◌++◌, ◌∷◌, ◌∙◌, ap, sym}
 use Rattle.std.proofs.lemmas.Bool.{false≢true}
-use Rattle.lei_shapes.specs.Shape.{between_spaces, texts_behind}
+use Rattle.lei_shapes.specs.Shape.{between_spaces, texts_at_hand}
 use Rattle.lei_records.proofs.SuccessorTexts.{next_valid}
 use Rattle.lei_records.proofs.texts.codes_in.Goals as goal
 
@@ -8,6 +8,6 @@ pub unreachable-requires : goal.unreachable-requires
 unreachable-requires c =
     let codes = c.loop-left.codes in
     let code = c.cut_at_space.result.0.now in
-    let is : codes ++ code ∷ texts_behind c.cut_at_space.result.1 ≡ between_spaces c.args.text.now =
-    ap (λ texts. codes ++ texts) (sym c.cut_at_space.ensures.texts) ∙ (ap (λ left. codes ++ texts_behind left) (sym c.in-Some.is) ∙ c.loop-left.invariant) in
-    false≢true (c.in-Err.ensures.valid.1 (next_valid c.args.text.now code codes (texts_behind c.cut_at_space.result.1) c.requires is))
+    let is : codes ++ code ∷ texts_at_hand c.cut_at_space.result.1 ≡ between_spaces c.args.text.now =
+    ap (λ texts. codes ++ texts) (sym c.cut_at_space.ensures.texts) ∙ (ap (λ left. codes ++ texts_at_hand left) (sym c.in-Some.is) ∙ c.loop-left.invariant) in
+    false≢true (c.in-Err.ensures.valid.1 (next_valid c.args.text.now code codes (texts_at_hand c.cut_at_space.result.1) c.requires is))

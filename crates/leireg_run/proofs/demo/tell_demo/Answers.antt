@@ -1,5 +1,5 @@
 use Rattle.std.proofs.Common.{List, ℕ, Ok, Option, ap, inl, subst}
-use Rattle.file_commands.specs.TwoFiles.{TellsOutcome}
+use Rattle.file_commands.specs.TwoFiles.{WritesOutcome}
 use Rattle.file_commands.specs.Status.{end_status}
 use Rattle.leireg_run.proofs.demo.tell_demo.Goals as goal
 
@@ -7,7 +7,7 @@ pub returns-clause-tells : goal.returns-clause-tells
 returns-clause-tells g c =
     let written = g.W.Sink.written in
     let text = c.in_ok-summary.summary in
-    let Told : List ℕ → Option (List ℕ) → Type 0 = λ told before. TellsOutcome (Ok told) before (written c.tell_text.new.out) (end_status c.tell_text.result) in
+    let Told : List ℕ → Option (List ℕ) → Type 0 = λ told before. WritesOutcome (Ok told) before (written c.tell_text.new.out) (end_status c.tell_text.result) in
     inl (
       text,
       c.in_ok-summary.ensures.summary,

@@ -1,7 +1,7 @@
 use Rattle.std.proofs.Common.{Err, ap, sym, ◌∙◌}
 use Rattle.file_commands.specs.Status.{end_status}
 use Rattle.leireg_run.specs.Ends.{MayTell}
-use Rattle.leireg_run.proofs.Completing.{completes_meant, completes_stopped, only_damage}
+use Rattle.leireg_run.proofs.Completing.{completes_meant, completes_stopped, only_damage, output_stopped}
 use Rattle.file_commands.proofs.TwoFilesRead.{rose_of, one_rose}
 use Rattle.leireg_run.proofs.program.run.Goals as goal
 
@@ -20,3 +20,8 @@ pub returns-in-Err-default-clause-damage_told : goal.returns-in-Err-default-clau
 returns-in-Err-default-clause-damage_told g c = λ seven out_still.
     let stop = c.in-Err-default.stop in
     c.run_command.ensures.damage_told (c.in-Err-default.is-0 ∙ ap Err (only_damage stop (sym c.status.ensures ∙ seven))) out_still
+
+pub returns-in-Err-default-clause-writes : goal.returns-in-Err-default-clause-writes
+returns-in-Err-default-clause-writes g c =
+    output_stopped g.W.Sink.written g.W.Sink.faults c.args.out.now c.run_command.new.out c.run_command.result.0 c.in-Err-default.stop c.status.result
+    c.in-Err-default.is-0 c.status.ensures c.run_command.ensures.writes

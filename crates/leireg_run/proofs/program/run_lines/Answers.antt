@@ -1,5 +1,5 @@
 use Rattle.std.proofs.Common.{ℕ, Option, ap, subst, sym}
-use Rattle.lei_outside.specs.Keeping.{KeptTables, Stays}
+use Rattle.lei_outside.specs.Keeping.{KeptTables, TablesStay}
 use Rattle.register_history.specs.Kept.{StaysUntold}
 use Rattle.register_words.specs.Limits.{standard}
 use Rattle.lei_office.specs.Offices.{FaultRose, IsRefused, keeper_back}
@@ -36,7 +36,7 @@ returns-in-Err-StoreDamaged-clause-runs g c =
     let faults = g.K.Keeper.faults in
     let keeper = c.in-Err-StoreDamaged.keeper in
     let fault = c.in-Err-StoreDamaged.field-0-is in
-    let same = subst (λ f. Stays (tables c.args.keeper) (tables (keeper_back f))) fault c.in-Err-StoreDamaged.ensures.same in
+    let same = subst (λ f. TablesStay (tables c.args.keeper) (tables (keeper_back f))) fault c.in-Err-StoreDamaged.ensures.same in
     let faultless = subst (λ f. FaultRose (faults c.args.keeper) (faults (keeper_back f)) f) fault c.in-Err-StoreDamaged.ensures.failed in
     let refused = subst (IsRefused standard tables) fault c.in-Err-StoreDamaged.ensures.refused in
     damaged_opening (MayTell tables) (g.S.Source.left c.args.input.now) (g.C.Clock.given c.args.clock.now) (g.W.Sink.written c.args.out.now) (g.W.Sink.written c.tell_damage.new.out)

@@ -1,15 +1,15 @@
 use Rattle.std.proofs.Common.{ℕ, List, Option, Result, ap, refl, subst, sym, ◌∙◌}
-use Rattle.lei_outside.specs.Links.{told_by}
+use Rattle.lei_outside.specs.Links.{link_told}
 use Rattle.register_history.specs.State.{OfficeState}
 use Rattle.request_loop.proofs.Failing.{fails_at}
 use Rattle.request_loop.proofs.Parts.{progress_of, serves_of}
 use Rattle.request_loop.specs.Serving.{progress}
-use Rattle.lei_office.specs.Answering.{OfficeStep, StepsBy, counted}
+use Rattle.lei_office.specs.Answering.{OfficeStep, StepsBy, with_count}
 use Rattle.lei_office.proofs.Sessions.{serves_untold}
 use Rattle.line_reading.specs.LineFrames.{line_rules}
 use Rattle.leireg_run.specs.Ends.{RunsFrom}
 use Rattle.leireg_run.specs.Outside.{outside}
-use Rattle.file_commands.specs.Files.{input_limit}
+use Rattle.file_commands.specs.Files.{run_limit}
 use Rattle.file_commands.specs.Status.{end_status, ended_as}
 use Rattle.file_commands.specs.declared.status.Stop.{Stop}
 use Rattle.leireg_run.proofs.Ending.{runs_served}
@@ -18,7 +18,7 @@ use Rattle.file_commands.proofs.Stopping.{only_read_fault, only_write_fault}
 use Rattle.leireg_run.proofs.program.serve_lines.Goals as goal
 
 pub serve-requires-clause-fits : goal.serve-requires-clause-fits
-serve-requires-clause-fits g c = lines_fit _ (counted g.K.Keeper.tables g.K.Keeper.faults) (record { shared = c.type_bounds.sync-R.shared })
+serve-requires-clause-fits g c = lines_fit _ (with_count g.K.Keeper.tables g.K.Keeper.faults) (record { shared = c.type_bounds.sync-R.shared })
 
 pub returns-clause-runs : goal.returns-clause-runs
 returns-clause-runs g c kept keeps =
@@ -33,8 +33,8 @@ returns-clause-runs g c kept keeps =
     let office_now = c.serve.new.who in
     let start = progress office (given c.args.clock.now) (written wire.out.now) in
     let now = progress office_now (given c.serve.new.clock) (written wire_now.out.now) in
-    let who = counted tables faults in
-    let serves = serves_of (StepsBy who) who OfficeStep line_rules (λ old new ask moments reply made. made) input_limit
+    let who = with_count tables faults in
+    let serves = serves_of (StepsBy who) who OfficeStep line_rules (λ old new ask moments reply made. made) run_limit
     c.serve.result start now (left wire.input.now) (left wire_now.input.now) c.serve.ensures.serves in
     let R : Result (Unit {0}) Stop → Type 0 = λ result. RunsFrom office.office
     (outside (left wire.input.now) (given c.args.clock.now) (written wire.out.now) (tables office.keeper) (faults office.keeper))
@@ -48,7 +48,7 @@ pub returns-clause-untold : goal.returns-clause-untold
 returns-clause-untold g c =
     let given = g.C.Clock.given in
     let written = g.W.Sink.written in
-    serves_untold (counted g.K.Keeper.tables g.K.Keeper.faults) line_rules input_limit c.serve.result
+    serves_untold (with_count g.K.Keeper.tables g.K.Keeper.faults) line_rules run_limit c.serve.result
     (progress c.args.office.now (given c.args.clock.now) (written c.args.wire.now.out.now))
     (progress c.serve.new.who (given c.serve.new.clock) (written c.serve.new.link.out.now)) _ _ c.serve.ensures.serves
 
@@ -57,7 +57,7 @@ returns-clause-reads g c =
     let left = g.S.Source.left in
     let written = g.W.Sink.written in
     record {
-      last = λ is. fails_at (told_by (λ d. left d.input.now) (λ d. written d.out.now)) (λ d. g.S.Source.faults d.input.now)
+      last = λ is. fails_at (link_told (λ d. left d.input.now) (λ d. written d.out.now)) (λ d. g.S.Source.faults d.input.now)
           (λ d. d.input.now) left g.S.Source.faults (λ told. told.left) c.args.wire.now c.serve.new.link (λ d. refl) (λ d. refl)
           (c.serve.ensures.read_fault (only_read_fault c.serve.result c.ended_as.result c.ended_as.ensures is));
       none = λ none. c.serve.ensures.no_read_fault (λ is. none (c.ended_as.ensures ∙ ap ended_as is));
@@ -68,7 +68,7 @@ returns-clause-writes g c =
     let left = g.S.Source.left in
     let written = g.W.Sink.written in
     record {
-      last = λ is. fails_at (told_by (λ d. left d.input.now) (λ d. written d.out.now)) (λ d. g.W.Sink.faults d.out.now)
+      last = λ is. fails_at (link_told (λ d. left d.input.now) (λ d. written d.out.now)) (λ d. g.W.Sink.faults d.out.now)
           (λ d. d.out.now) written g.W.Sink.faults (λ told. told.written) c.args.wire.now c.serve.new.link (λ d. refl) (λ d. refl)
           (c.serve.ensures.write_fault (only_write_fault c.serve.result c.ended_as.result c.ended_as.ensures is));
       none = λ none. c.serve.ensures.no_write_fault (λ is. none (c.ended_as.ensures ∙ ap ended_as is));

@@ -14,9 +14,9 @@ pub returns-in-Err-clause-ends : goal.returns-in-Err-clause-ends
 returns-in-Err-clause-ends g c =
     let opened = c.in-Err.ensures in
     let tells = line_tells g.D.Line.Link.left g.D.Line.Link.written g.D.Line.Link.read_faults g.D.Line.Link.write_faults in
-    let refused = c.refused-status in
+    let refused = c.refusal_end-status in
     ends_refused g.K.Keeper.tables g.K.Keeper.faults tells _ c.args.keeper refused.result.1 c.in-Err.fault _ refused.result.0
     c.standard.ensures.value refused.ensures.back opened.refused opened.back opened.failed refused.ensures.status
 
 pub returns-in-Err-clause-meant : goal.returns-in-Err-clause-meant
-returns-in-Err-clause-meant g c one = refused_meant c.in-Err.fault (sym c.refused-status.ensures.status ∙ one)
+returns-in-Err-clause-meant g c one = refused_meant c.in-Err.fault (sym c.refusal_end-status.ensures.status ∙ one)

@@ -1,12 +1,12 @@
 use Rattle.std.proofs.Common.{◌≤◌, take}
-use Rattle.name_search.specs.Gathering.{Gathers}
+use Rattle.name_search.specs.Gathering.{GathersPage}
 use Rattle.name_search.specs.Searching.{is_match}
-use Rattle.name_search.specs.Walks.{walk}
+use Rattle.name_search.specs.Walks.{walk_keys}
 use Rattle.name_search.proofs.gathering.gather_rising.Given as goal
 
 -- the matches under the keys so far are gathered
 abbrev pub invariant-loop-key : goal.invariant-loop-key
 invariant-loop-key l = record {
-  gathers : Gathers l.start (walk (is_match l.wanted) l.rows (take l.key-index l.keys)) l.gathered.matches l.gathered.names.items;
+  gathers : GathersPage l.start (walk_keys (is_match l.wanted) l.rows (take l.key-index l.keys)) l.gathered.matches l.gathered.names.items;
   few : l.gathered.matches ≤ l.key-index;
 }

@@ -4,7 +4,7 @@ use Rattle.std.proofs.lemmas.Iterator.Consumers.{YieldsList-end, YieldsList-turn
 use Rattle.std.proofs.lemmas.List.{length_push}
 use Rattle.std.specs.Str.{chars}
 use Rattle.name_search.proofs.Cutting.{cut_at, cut_end, read_on}
-use Rattle.name_search.specs.Words.{is_word, pieces}
+use Rattle.name_search.specs.Words.{is_word, word_pieces}
 use Rattle.name_search.proofs.words.cut.Goals as goal
 
 pub loop-c-preserved-in-Continue-1 : goal.loop-c-preserved-in-Continue-1
@@ -22,4 +22,4 @@ loop-c-preserved c =
 pub returns : goal.returns
 returns c =
     let t = YieldsList-end (YieldsList-from_chars c.args.text.now c.utf8.text cc) c.loop-c.yielded _ c.loop-c.yielded_by _ _ c.in-None.is c.next.ensures.steps in
-    c.from.ensures ∙ cut_end c.loop-c.words.items _ (string_bytes c.loop-c.word) (chars c.args.text.now) (length c.loop-c.yielded) (filter is_word (pieces (chars c.args.text.now))) c.loop-c.invariant (omega (arith, t.1)) c.in_ok-put_word-2.ensures.words
+    c.from.ensures ∙ cut_end c.loop-c.words.items _ (string_bytes c.loop-c.word) (chars c.args.text.now) (length c.loop-c.yielded) (filter is_word (word_pieces (chars c.args.text.now))) c.loop-c.invariant (omega (arith, t.1)) c.in_ok-put_word-2.ensures.words

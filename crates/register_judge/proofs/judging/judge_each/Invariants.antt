@@ -1,6 +1,6 @@
 use Rattle.std.proofs.Common.{◌≡◌, ◌≤◌, IsSome, drop}
 use Rattle.register_judge.specs.Judging.{put_writes}
-use Rattle.register_judge.specs.Overlays.{cells_in}
+use Rattle.register_judge.specs.Overlays.{overlay_view}
 use Rattle.register_judge.proofs.ReadLemmas.{Admits, IsSoFar}
 use Rattle.register_judge.proofs.judging.judge_each.Given as goal
 
@@ -12,7 +12,7 @@ invariant-loop-item g l = record {
       l.progress.new_records (drop l.item-index l.items) l.items;
   admitted : Admits l.progress.noted (g.V.View.cells l.view) (g.V.View.cells l.view);
   listed : IsSome l.fn.noted → IsSome l.progress.noted;
-  over : cells_in g.V.View.cells l.overlay ≡ put_writes l.progress.writes.items (g.V.View.cells l.view);
+  over : overlay_view g.V.View.cells l.overlay ≡ put_writes l.progress.writes.items (g.V.View.cells l.view);
   few : l.progress.new_records ≤ l.item-index;
   few_added : l.progress.added ≤ l.item-index;
 }

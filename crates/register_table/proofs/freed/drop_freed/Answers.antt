@@ -1,5 +1,5 @@
 use Rattle.std.proofs.Common.{◌∙◌}
-use Rattle.register_table.specs.Parts.{IsNoteWithin, noted, taken}
+use Rattle.register_table.specs.Parts.{IsNoteWithin, all_marks, lei_marks}
 use Rattle.register_table.proofs.FreedLemmas.{each_next, note_still}
 use Rattle.register_table.proofs.NoteLemmas.{stays-more}
 use Rattle.register_table.proofs.freed.drop_freed.Goals as goal
@@ -14,6 +14,6 @@ loop-note-preserved c =
       parts = c.drop_note.ensures.parts;
       still = stays-more _ _ _ inv.still c.drop_note.ensures.taken;
       fewer = stays-more _ _ _ c.drop_note.ensures.fewer inv.fewer;
-      left = each_next (IsNoteWithin (noted before) (taken before)) (IsNoteWithin (noted after) (taken after)) c.args.notes.now c.loop-note.note-index c.note-item.result
+      left = each_next (IsNoteWithin (all_marks before) (lei_marks before)) (IsNoteWithin (all_marks after) (lei_marks after)) c.args.notes.now c.loop-note.note-index c.note-item.result
           c.loop-note-test.true c.note-item.is (note_still _ _ _ _ c.drop_note.ensures.fewer c.drop_note.ensures.taken) c.drop_note.ensures.left inv.left;
     }

@@ -1,6 +1,6 @@
 use Rattle.std.proofs.Common.{◌≡◌, true, false, rules}
 use Rattle.lei_records.specs.Relations.{is_active}
-use Rattle.register_table.specs.Parts.{noted, taken}
+use Rattle.register_table.specs.Parts.{all_marks, lei_marks}
 use Rattle.register_table.proofs.FreedLemmas.{dropped_start, dropped_start_fewer, dropped_start_left, dropped_start_stays, no_start, own_start}
 use Rattle.register_table.proofs.freed.drop_start.Goals as goal
 
@@ -25,4 +25,4 @@ returns-then-is_active-clause-left c =
 pub returns-else-is_active-clause-left : goal.returns-else-is_active-clause-left
 returns-else-is_active-clause-left c =
     let idle : is_active c.args.relation.now ≡ false = search rules in
-    no_start (noted c.args.parts.now) (taken c.args.parts.now) c.args.relation.now idle
+    no_start (all_marks c.args.parts.now) (lei_marks c.args.parts.now) c.args.relation.now idle

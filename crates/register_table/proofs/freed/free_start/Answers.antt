@@ -2,7 +2,7 @@ use Rattle.std.proofs.Common.{◌≡◌, true, false, None, is_some, rules}
 use Rattle.lei_records.specs.Relations.{is_active}
 use Rattle.lei_records.specs.Tables.{active_of}
 use Rattle.register_table.specs.Held.{rows}
-use Rattle.register_table.specs.Parts.{held_by, taken}
+use Rattle.register_table.specs.Parts.{held_by, lei_marks}
 use Rattle.register_table.proofs.FreedLemmas.{active_start_left, freed_start, freed_start_left, no_start, own_start}
 use Rattle.register_table.proofs.freed.free_start.Goals as goal
 
@@ -27,4 +27,4 @@ returns-else-is_none-clause-left c =
 pub returns-else-is_active-clause-left : goal.returns-else-is_active-clause-left
 returns-else-is_active-clause-left c =
     let idle : is_active c.args.relation.now ≡ false = search rules in
-    no_start (taken c.args.parts.now) (held_by (rows c.args.parts.now.cells)) c.args.relation.now idle
+    no_start (lei_marks c.args.parts.now) (held_by (rows c.args.parts.now.cells)) c.args.relation.now idle

@@ -4,7 +4,7 @@ use Rattle.std.proofs.lemmas.List.Elements.{All-push}
 use Rattle.std.proofs.lemmas.List.Sorted.{IsNonDecreasingBy-push}
 use Rattle.register_table.specs.declared.stamps.Stamp.{Stamp}
 use Rattle.register_table.specs.Held.{cell_key}
-use Rattle.register_table.specs.Stamps.{AreInOrder, AreStamped, HasStamp}
+use Rattle.register_table.specs.Stamps.{AreStamped, HasStamp, StampsDontFall}
 use Rattle.register_table.proofs.StampLemmas.{each_more, stamped_all, stamped_more}
 use Rattle.register_table.proofs.stamps.stamp_writes.Goals as goal
 
@@ -16,7 +16,7 @@ loop-write-preserved c =
     let pushed = sym c.push_reserved.ensures.items in
     let inv = c.loop-write.invariant in
     record {
-      order = subst AreInOrder pushed (IsNonDecreasingBy-push (λ s. s.entry) stamps stamp inv.order (λ d some. inv.most (length stamps - 1) d (omega (arith, some))));
+      order = subst StampsDontFall pushed (IsNonDecreasingBy-push (λ s. s.entry) stamps stamp inv.order (λ d some. inv.most (length stamps - 1) d (omega (arith, some))));
       most = subst (All (λ (s : Stamp). s.entry ≤ entry)) pushed (All-push (λ (s : Stamp). s.entry ≤ entry) stamps stamp inv.most (omega arith));
       kept = λ held later stamped. subst (λ l. AreStamped l held) pushed (stamped_more stamps stamp held (inv.kept held later stamped));
       each = λ k d less. subst (λ l. HasStamp l entry (cell_key (get_or c.args.writes.now k d).0)) pushed

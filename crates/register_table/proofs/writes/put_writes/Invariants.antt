@@ -1,7 +1,7 @@
 use Rattle.std.proofs.Common.{◌≡◌, ◌≤◌, drop, length, map, vec_capacity, vec_len}
 use Rattle.register_table.specs.Held.{rows}
-use Rattle.register_table.specs.Parts.{AreParts, CanBeUndone, Stays, note_of, noted, taken}
-use Rattle.register_table.specs.Undos.{AreOwn, StaysKept, touch_all, undone}
+use Rattle.register_table.specs.Parts.{ArePartsOfTable, CanBeUndone, MarksStay, all_marks, lei_marks, note_cell}
+use Rattle.register_table.specs.Undos.{AreOwn, StaysKept, cells_before, touch_all}
 use Rattle.register_table.proofs.writes.put_writes.Given as goal
 
 -- the remaining writes put into the cells so far give all writes put into the first cells, and the notes lead back to
@@ -13,10 +13,10 @@ invariant-loop-write l =
       put : touch_all l.entry rest l.parts.cells ≡ touch_all l.entry l.writes l.fn.parts.cells;
       own : AreOwn rest;
       kept : StaysKept rest (rows l.parts.cells);
-      parts : AreParts l.parts;
-      back : undone (map note_of l.notes.items) l.parts.cells ≡ l.fn.parts.cells;
-      undoable : CanBeUndone (taken l.parts) l.notes.items l.parts.cells;
-      noted : Stays (noted l.fn.parts) (noted l.parts);
+      parts : ArePartsOfTable l.parts;
+      back : cells_before (map note_cell l.notes.items) l.parts.cells ≡ l.fn.parts.cells;
+      undoable : CanBeUndone (lei_marks l.parts) l.notes.items l.parts.cells;
+      noted : MarksStay (all_marks l.fn.parts) (all_marks l.parts);
       room : length l.writes ≤ vec_capacity l.notes;
       len : vec_len l.notes ≤ l.write-index;
     }

@@ -1,7 +1,7 @@
 use Rattle.std.proofs.Common.{◌≡◌, ◌-◌, get_or, map, rules, set, subst, sym, take, ap, ◌∙◌}
 use Rattle.std.proofs.lemmas.List.{take-set}
-use Rattle.register_table.specs.Parts.{CanBeUndone, note_of, noted}
-use Rattle.register_table.specs.Undos.{undone}
+use Rattle.register_table.specs.Parts.{CanBeUndone, all_marks, note_cell}
+use Rattle.register_table.specs.Undos.{cells_before}
 use Rattle.register_table.proofs.NoteLemmas.{can-popped, last_left, last_note, stays-more, undone-popped}
 use Rattle.register_table.proofs.writes.undo_notes.Goals as goal
 
@@ -33,10 +33,10 @@ loop-left-preserved c =
     let front : take (left - 1) (set notes (left - 1) c.undo_note.new.note) ≡ take (left - 1) notes = take-set notes (left - 1) c.undo_note.new.note in
     record {
       inside = search rules;
-      told = ap (λ ns. undone (map note_of ns) new.cells) front
+      told = ap (λ ns. cells_before (map note_cell ns) new.cells) front
           ∙ (undone-popped parts (take (left - 1) notes) (take left notes) note inv.undoable last new c.undo_note.ensures.cells ∙ inv.told);
       parts = c.undo_note.ensures.parts;
-      undoable = subst (λ ns. CanBeUndone (noted new) ns new.cells) (sym front)
+      undoable = subst (λ ns. CanBeUndone (all_marks new) ns new.cells) (sym front)
           (can-popped parts (take (left - 1) notes) (take left notes) note inv.undoable last new c.undo_note.ensures.noted c.undo_note.ensures.cells);
       noted = stays-more _ _ _ inv.noted c.undo_note.ensures.noted;
     }

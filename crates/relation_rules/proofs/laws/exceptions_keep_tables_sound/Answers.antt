@@ -1,5 +1,5 @@
-use Rattle.authority_rules.proofs.SoundLemmas.{IsSound-put_exception}
+use Rattle.authority_rules.proofs.SoundLemmas.{IsSoundTable-put_exception}
 use Rattle.relation_rules.proofs.laws.exceptions_keep_tables_sound.Goals as goal
 
 pub returns : goal.returns
-returns c = IsSound-put_exception
+returns c = IsSoundTable-put_exception

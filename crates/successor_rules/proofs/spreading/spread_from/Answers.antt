@@ -61,7 +61,7 @@ returns-in-None g c =
     let few : length c.loop-asked.found ≤ 200 = search rules in
     let whole : length c.loop-asked.found ≤ c.loop-asked.asked = search rules in
     let lack : c.loop-asked.lacking ≡ None = search rules in
-    c.ended.ensures
+    c.end_by.ensures
     ∙ (ap (λ o. unless_lacking cell o (cond c.loop-asked.is_met Walked.Meets Walked.Ends)) (sym lack)
     ∙ asked_all (g.B.Branches.answers c.args.branches.now) c.args.own.now c.args.from.now c.loop-asked.asked c.loop-asked.found
     c.loop-asked.is_met c.loop-asked.lacking cell c.loop-asked.invariant few whole)

@@ -1,7 +1,7 @@
 use Rattle.std.proofs.Common.{◌∙◌, ap, option_map, rules, subst, sym, IsTrue}
 use Rattle.json.specs.Find.{NextMember}
 use Rattle.serde_json.specs.Read.{of_members}
-use Rattle.upload_format.specs.Ordered.{texts_of}
+use Rattle.upload_format.specs.Ordered.{members_with_texts}
 use Rattle.upload_format.proofs.OrderedLemmas.{fields_end, fields_more}
 use Rattle.upload_format.proofs.ordered.read_fields.Goals as goal
 
@@ -9,7 +9,7 @@ pub loop-name-init : goal.loop-name-init
 loop-name-init c ms at = record {
   rest = ms;
   at = at;
-  value = ap (λ fields. of_members ms (texts_of fields)) (sym c.in_ok-fields.ensures);
+  value = ap (λ fields. of_members ms (members_with_texts fields)) (sym c.in_ok-fields.ensures);
   flat = λ flat. flat;
 }
 

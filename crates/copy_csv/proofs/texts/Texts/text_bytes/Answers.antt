@@ -5,7 +5,7 @@ use Rattle.std.specs.Str.{IsUtf8, is_utf8}
 use Rattle.lei_records.specs.Rows.{text_at}
 use Rattle.std.proofs.lemmas.List.{length-map}
 use Rattle.copy_csv.specs.Cuts.{part, spans}
-use Rattle.copy_csv.proofs.CutLemmas.{cut-utf8_of, length-spans, text-at}
+use Rattle.copy_csv.proofs.CutLemmas.{length-spans, parts_at_ends-utf8_of, text-at}
 use Rattle.copy_csv.proofs.texts.Texts.text_bytes.Goals as goal
 
 pub span-start-requires : goal.span-start-requires
@@ -49,4 +49,4 @@ returns-clause-text c =
 
 pub returns-clause-utf8 : goal.returns-clause-utf8
 returns-clause-utf8 c = let F : List (List ℕ) → Type 0 = λ l. IsTrue (list_all is_utf8 l) in
-    subst F c.self.view_is (cut-utf8_of c.self.inside.bytes.items c.self.inside.ends c.self.invariant)
+    subst F c.self.view_is (parts_at_ends-utf8_of c.self.inside.bytes.items c.self.inside.ends c.self.invariant)

@@ -1,10 +1,10 @@
 use Rattle.lei_shapes.specs.Lists.{relation_type_text}
-use Rattle.fetched_cells.specs.Maps.{cells_in}
-use Rattle.fetched_cells.proofs.MapLemmas.{pair_at-insert}
+use Rattle.fetched_cells.specs.Maps.{fetched_view}
+use Rattle.fetched_cells.proofs.MapLemmas.{seen_pair_at-insert}
 use Rattle.fetched_cells.proofs.fetched.Fetched.put_end.Goals as goal
 
 pub returns-in-Ok-clause-put : goal.returns-in-Ok-clause-put
-returns-in-Ok-clause-put c = λ i. record (cells_in c.args.self.now) {
-  active = λ s k. pair_at-insert c.args.self.now.ends c.insert.new.self (c.args.start.now, c.text.result) (relation_type_text c.args.kind)
+returns-in-Ok-clause-put c = λ i. record (fetched_view c.args.self.now) {
+  active = λ s k. seen_pair_at-insert c.args.self.now.ends c.insert.new.self (c.args.start.now, c.text.result) (relation_type_text c.args.kind)
       c.args.found c.text.ensures c.in-Ok.ensures.updates s (relation_type_text k) i;
 }

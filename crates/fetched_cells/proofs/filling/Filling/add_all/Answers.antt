@@ -1,5 +1,5 @@
 use Rattle.std.proofs.Common.{◌+◌, ◌∷◌, drop, sym}
-use Rattle.fetched_cells.specs.Fetching.{brought, fetched_keys}
+use Rattle.fetched_cells.specs.Fetching.{fetched_keys, keys_along}
 use Rattle.fetched_cells.proofs.FillLemmas.{goes_full, goes_none, goes_on, keys_next, none_left}
 use Rattle.fetched_cells.proofs.filling.Filling.add_all.Goals as goal
 
@@ -16,7 +16,7 @@ loop-key-preserved g c =
     let i = c.loop-key.key-index in
     let key = c.key-item.result in
     goes_on whole c.args.self.now c.loop-key.self (fetched_keys whole (drop i keys)) (fetched_keys whole keys)
-    c.add_named.new.self (key ∷ brought whole key) (fetched_keys whole (drop (i + 1) keys))
+    c.add_named.new.self (key ∷ keys_along whole key) (fetched_keys whole (drop (i + 1) keys))
     c.loop-key.invariant (keys_next whole keys i key c.loop-key-test.true (sym c.key-item.is)) c.in_ok-add_named.ensures
 
 pub returns : goal.returns

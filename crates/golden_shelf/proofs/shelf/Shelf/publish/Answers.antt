@@ -2,8 +2,8 @@ use Rattle.std.proofs.Common.{[], ◌∷◌, ◌++◌, ap, sym, subst, ◌∙◌
 use Rattle.lei_shapes.specs.Moment.{IsMoment}
 use Rattle.register_words.specs.declared.sheets.Sheet.{Sheet}
 use Rattle.golden_shelf.specs.Lines.{with_lines}
-use Rattle.golden_shelf.specs.Parts.{kept_of}
-use Rattle.golden_shelf.specs.Shelves.{Keeps, MayFollow, lines_of}
+use Rattle.golden_shelf.specs.Parts.{kept_parts}
+use Rattle.golden_shelf.specs.Shelves.{KeepsTrail, MayFollow, lines_of}
 use Rattle.golden_shelf.proofs.Keeping.{pairs_of, to_line}
 use Rattle.golden_shelf.proofs.Publishing.{by_sheet, keeps_next, lines_next, noted_rising}
 use Rattle.std.proofs.Common.{map, ◌≡◌}
@@ -26,17 +26,17 @@ put-requires-clause-repex_rising g c =
 
 pub returns-clause-next : goal.returns-clause-next
 returns-clause-next g c = λ trail next keeps issued.
-    let kept = kept_of c.self.inside.issues.items c.self.inside.sides in
+    let kept = kept_parts c.self.inside.issues.items c.self.inside.sides in
     let changes = c.args.changes.now in
     let are = c.in_ok-notes.ensures.notes in
-    keeps_next trail kept (kept_of c.push_reserved.new.self.items c.put.new.self) changes
+    keeps_next trail kept (kept_parts c.push_reserved.new.self.items c.put.new.self) changes
     (record { moment = c.args.moment; wide = c.args.wide; keys = c.in_ok-keys.keys }) next c.requires.changes
     (subst (λ issues. MayFollow issues c.args.wide) (sym (ap (λ s. s.now.issues) c.self.view_is)) c.requires.follows) c.requires.plain
     (subst IsMoment c.seconds.ensures.value c.seconds.ensures.moment)
     (c.push_reserved.ensures.items ∙ ap (λ l. l ++ record { moment = c.args.moment; wide = c.args.wide; keys = c.in_ok-keys.keys } ∷ []) c.in_ok-reserve.ensures.items)
     c.in_ok-keys.ensures
-    (by_sheet (λ sheet. lines_of (kept_of c.push_reserved.new.self.items c.put.new.self) sheet ≡ with_lines (lines_of kept sheet) (map to_line (pairs_of sheet changes)))
+    (by_sheet (λ sheet. lines_of (kept_parts c.push_reserved.new.self.items c.put.new.self) sheet ≡ with_lines (lines_of kept sheet) (map to_line (pairs_of sheet changes)))
     (lines_next Sheet.Lei changes c.in_ok-notes.notes.items c.in_ok-parts.parts.lei.items _ _ _ are c.in_ok-parts.ensures.lei c.in_ok-make_room.ensures.lei c.put.ensures.lei)
     (lines_next Sheet.Rr changes c.in_ok-notes.notes.items c.in_ok-parts.parts.rr.items _ _ _ are c.in_ok-parts.ensures.rr c.in_ok-make_room.ensures.rr c.put.ensures.rr)
     (lines_next Sheet.Repex changes c.in_ok-notes.notes.items c.in_ok-parts.parts.repex.items _ _ _ are c.in_ok-parts.ensures.repex c.in_ok-make_room.ensures.repex c.put.ensures.repex))
-    (subst (Keeps trail) (sym (ap (λ s. s.now) c.self.view_is)) keeps) issued
+    (subst (KeepsTrail trail) (sym (ap (λ s. s.now) c.self.view_is)) keeps) issued

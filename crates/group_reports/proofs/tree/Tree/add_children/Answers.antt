@@ -1,6 +1,6 @@
 use Rattle.std.proofs.Common.{rules, arith, ◌≡◌, ◌+◌, ◌-◌, ◌<◌, ◌≤◌, ◌∙◌, length, subst, sym, None}
 use Rattle.std.proofs.lemmas.List.{get_or_read}
-use Rattle.group_reports.specs.Places.{FindsChildren, step}
+use Rattle.group_reports.specs.Places.{FindsChildren, step_up}
 use Rattle.group_reports.proofs.ChildLemmas.{AddsFrom, adds_child, adds_end, adds_on, at-is, fewer_left, still}
 use Rattle.group_reports.proofs.tree.Tree.add_children.Goals as goal
 
@@ -29,7 +29,7 @@ loop-left-smaller c =
     let read = get_or_read c.self.inside.nexts.items c.in-Some.child c.index-left-in-Some.result.now within c.index-left-in-Some.ensures None in
     subst (λ o. still c.args.self.now c.index-left-in-Some.result.now < still c.args.self.now o) (sym c.in-Some.is)
     (fewer_left c.args.self.now c.args.parent c.in-Some.child c.index-left-in-Some.result.now (omega (arith, low, high))
-    (read ∙ finds.next c.args.parent c.in-Some.child (at-is c.args.parent (step c.args.self.now c.in-Some.child) at.passes)))
+    (read ∙ finds.next c.args.parent c.in-Some.child (at-is c.args.parent (step_up c.args.self.now c.in-Some.child) at.passes)))
 
 pub loop-left-preserved : goal.loop-left-preserved
 loop-left-preserved c =

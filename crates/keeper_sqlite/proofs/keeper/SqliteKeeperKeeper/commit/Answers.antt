@@ -8,7 +8,7 @@ returns-clause-crash g c =
     let new = c.commit_in-answer.new.store in
     subst (λ r. CommitLeaves c.args.batch.now r (tables_in g.S.Store c.args.self.now.store)
     (tables_in g.S.Store new) (leaves_from g.S.Store c.args.self.now.store) (leaves_from g.S.Store new))
-    (sym c.counted.ensures.same)
+    (sym c.count_fault.ensures.same)
     (subst (λ v. CommitLeaves c.args.batch.now c.commit_in-answer.result (tables_in g.S.Store v.store)
     (tables_in g.S.Store new) (leaves_from g.S.Store v.store) (leaves_from g.S.Store new))
     c.self.view_is c.commit_in-answer.ensures.crash)

@@ -1,5 +1,5 @@
 use Rattle.std.proofs.Common.{subst}
-use Rattle.lei_outside.specs.Keeping.{AreKept, LeavesNoMore, Stays}
+use Rattle.lei_outside.specs.Keeping.{AreKept, LeavesNoMore, TablesStay}
 use Rattle.sqlite.specs.Held.{state}
 use Rattle.keeper_sqlite.specs.Keepers.{leaves_of, leaves_since, tables_of, told_since}
 use Rattle.store_tables.proofs.CallLemmas.{if_ok}
@@ -28,7 +28,7 @@ returns-clause-same g c =
     let adopted = state g.S.Store c.self.inside.adopted.value in
     let old = state g.S.Store c.self.inside.conn in
     let new = state g.S.Store c.last.new.conn in
-    subst (λ v. Stays (tables_of g.S.Store v) (told_since adopted new)) c.self.view_is
+    subst (λ v. TablesStay (tables_of g.S.Store v) (told_since adopted new)) c.self.view_is
     (steady_stays adopted old new c.self.invariant c.last.ensures.steady)
 
 pub returns-clause-crash : goal.returns-clause-crash

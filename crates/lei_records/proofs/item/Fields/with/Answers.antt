@@ -1,5 +1,5 @@
 use Rattle.std.proofs.Common.{◌∙◌, ◌++◌, ◌∷◌, [], ap, subst, sym}
-use Rattle.lei_records.specs.Names.{AreRising}
+use Rattle.lei_records.specs.Names.{NamesRise}
 use Rattle.lei_records.proofs.PairLemmas.{paired_grow, pairs_grow}
 use Rattle.lei_records.proofs.item.Fields.with.Goals as goal
 
@@ -7,7 +7,7 @@ pub invariant_of-result : goal.invariant_of-result
 invariant_of-result c =
     paired_grow c.self.inside.texts c.push.new.self c.push-2.new.self c.args.name.now c.args.text.now c.self.invariant
     c.in_ok-push.ensures.ok c.in_ok-push-2.ensures.ok
-    (subst (λ pairs. AreRising (pairs ++ (c.args.name.now, c.args.text.now) ∷ [])) (sym c.self.view_is) c.requires)
+    (subst (λ pairs. NamesRise (pairs ++ (c.args.name.now, c.args.text.now) ∷ [])) (sym c.self.view_is) c.requires)
 
 pub returns : goal.returns
 returns c =

@@ -1,10 +1,10 @@
 use Rattle.std.proofs.Common.{◌≢◌, rules}
 use Rattle.lei_shapes.specs.declared.lists.Validation.{Validation}
 use Rattle.lei_shapes.specs.Lists.{validation_text, validations}
-use Rattle.lei_shapes.proofs.ListLemmas.{named-none}
+use Rattle.lei_shapes.proofs.ListLemmas.{value_named-none}
 use Rattle.lei_shapes.proofs.lists.Validation.read.Goals as goal
 
 pub returns-in_default-clause-value : goal.returns-in_default-clause-value
 returns-in_default-clause-value c =
     let apart : (v : Validation) → validation_text v ≢ c.args.text.now = search rules in
-    named-none validation_text validations c.args.text.now apart
+    value_named-none validation_text validations c.args.text.now apart

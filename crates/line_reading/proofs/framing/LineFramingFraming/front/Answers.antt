@@ -1,12 +1,12 @@
 use Rattle.std.proofs.Common.{◌≡◌, ◌≤◌, Bool, length, arith, subst}
 use Rattle.std.proofs.lemmas.Bool.Decides.{nat_tests}
-use Rattle.line_reading.specs.LineFrames.{Holds}
+use Rattle.line_reading.specs.LineFrames.{HoldsLines}
 use Rattle.line_reading.proofs.LineFronts.{reads_line}
 use Rattle.line_reading.proofs.framing.LineFramingFraming.front.Goals as goal
 
 pub returns-then-self : goal.returns-then-self
 returns-then-self c bytes holds =
-    let H : Bool → Type 0 = λ skips. Holds skips c.args.self.now.seen c.args.held.now bytes in
+    let H : Bool → Type 0 = λ skips. HoldsLines skips c.args.self.now.seen c.args.held.now bytes in
     c.skip.ensures bytes (subst H c.if-self.true holds)
 
 pub returns-in-Some : goal.returns-in-Some

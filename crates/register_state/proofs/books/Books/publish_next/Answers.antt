@@ -1,9 +1,9 @@
 use Rattle.std.proofs.Common.{◌≡◌, ◌++◌, ◌∷◌, [], ap, subst, sym, ◌∙◌}
-use Rattle.golden_shelf.specs.Shelves.{Keeps as KeepsTrail}
+use Rattle.golden_shelf.specs.Shelves.{KeepsTrail as KeepsTrail}
 use Rattle.golden_shelf.proofs.Publishing.{may_follow}
 use Rattle.upload_ledger.specs.History.{is_publication}
 use Rattle.register_history.specs.Legal.{Legal}
-use Rattle.register_history.specs.Publications.{is_wide, publication_by, trail}
+use Rattle.register_history.specs.Publications.{are_wide_rules, publication_by, trail}
 use Rattle.register_history.specs.Publishing.{AreNextChanges}
 use Rattle.register_history.specs.Register.{after}
 use Rattle.register_history.specs.Replies.{publication_entry, published_counts}
@@ -24,7 +24,7 @@ shelve-requires-clause-follows g c = λ _ _.
     let rules = c.args.terms.now.rules in
     let legal = subst Legal c.self.view_is c.self.invariant.legal in
     let follows = follows-within office.history rules c.requires.follows in
-    may_follow (trail office) c.args.shelf.now.now (is_wide rules) c.requires.shelf (never-narrows office.limits office.history rules legal follows.rising)
+    may_follow (trail office) c.args.shelf.now.now (are_wide_rules rules) c.requires.shelf (never-narrows office.limits office.history rules legal follows.rising)
 
 pub shelve-requires-clause-plain : goal.shelve-requires-clause-plain
 shelve-requires-clause-plain g c = λ _ _.

@@ -1,7 +1,7 @@
 use Rattle.std.proofs.Common.{◌≡◌, List, length, subst, rules}
 use Rattle.copy_csv.specs.Sheets.{SheetRow}
 use Rattle.copy_forms.specs.Patching.{patched}
-use Rattle.name_search.specs.NameTables.{IsTableOf, NameTable, Takes, number_in}
+use Rattle.name_search.specs.NameTables.{IsNameTable, MayTakeDelta, NameTable, number_in}
 use Rattle.query_reading.specs.declared.reply.QueryReply.TheVariants as replies
 use Rattle.search_queries.specs.Answers.{rows_text}
 use Rattle.search_queries.specs.Searchers.{TakesDeltaSo}
@@ -21,10 +21,10 @@ returns-clause-takes g c =
     let reply = replies.Text c.rows_text.result in
     let T : NameTable → Type 0 = λ table. TakesDeltaSo table delta reply new in
     let same : index ≡ c.args.self.now.table = search rules in
-    let rows : (rows : List SheetRow) → IsTableOf rows index
-    → IsTableOf (patched rows delta.changes) new = search rules in
+    let rows : (rows : List SheetRow) → IsNameTable rows index
+    → IsNameTable (patched rows delta.changes) new = search rules in
     let publication : new.publication ≡ number_in delta.head = search rules in
     let wide : new.wide ≡ delta.wide = search rules in
-    let takes : Takes index delta = search rules in
+    let takes : MayTakeDelta index delta = search rules in
     let text : reply ≡ replies.Text (rows_text (length new.names)) = search rules in
     subst T same (taken index new delta reply rows publication wide takes text)
