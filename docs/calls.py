@@ -1,15 +1,15 @@
 #!/usr/bin/env python3
 """Makes the tables of docs/CALLS.md from the sources and from the READMEs of the crates: of each call that a library crate
-exports what it may answer in the place of its result, what is left then, whether it may wait and whether it may want
-memory. What stands above the tables is written by hand, and each clause that it names has to be there.
+exports what else it may return instead of its result, the state after that, whether it may wait and whether it may run
+out of memory. The text above the tables is written by hand, and each clause that it names has to exist.
 
-A call may wait if it has the bound `Wait`, or the block that it stands in. It may want memory if its answer can say so.
-What is left is said by the sentences that the README has for the clauses on a refusal; a call to which nothing is lent that
-it could change leaves everything.
+A call may wait if it or its block has the bound `Wait`. It may run out of memory if its result can report that. The state
+after a refusal is described by the sentences that the README has for the clauses on a refusal. A call without an argument
+that it could change leaves everything unchanged.
 
 usage: docs/calls.py          writes docs/CALLS.md
        docs/calls.py --check  writes nothing, and ends with status 1 if the page is stale
-Both end with status 1 if a clause that the page names isn't there.
+Both end with status 1 if a clause that the page names doesn't exist.
 """
 import pathlib
 import re
@@ -22,9 +22,9 @@ PAGE = ROOT / "docs" / "CALLS.md"
 MARK = "<!-- what follows is made by docs/calls.py -->"
 APART = {"example_sessions", "worked_examples", "register_tests", "leireg"}
 VARIANT = re.compile(r"^    (\w+)(?:\((.*)\)|(?: \{.*)?),?$")
-# The types of answers whose variants say how it went.
+# The types of results whose variants say how a call ended.
 OUTCOMES = ["Came", "Checked", "DeskEnd", "Ended", "HeadRead", "HttpRead", "JudgeStop", "Place", "Readied", "Seen", "Walked"]
-# What a call that may be refused leaves, of those to which something is lent: the clauses of its README that say so.
+# The state after a call that may be refused and has an argument that it could change: the clauses of its README on it.
 LEFT = {
     "lei_outside.Keeper::last": "same crash",
     "lei_outside.Keeper::entries": "same crash",
@@ -123,7 +123,7 @@ class Call:
 
     @property
     def answer(self):
-        """The type of the answer, as it stands there."""
+        """The type of the result, as it is written there."""
         rest = self.signature[self.signature.index(f"fn {self.name.rsplit('::')[-1]}"):]
         depth, start = 0, None
         for at, letter in enumerate(rest):
@@ -139,7 +139,7 @@ class Call:
 
     @property
     def lends(self):
-        """Whether something is lent or handed to it that it could change."""
+        """Whether it has an argument that it could change."""
         return "&mut" in self.signature or bool(re.search(r"\((?:mut )?self\b", self.signature))
 
 
@@ -194,7 +194,7 @@ def says_no_memory(kind, enums, seen=()):
 
 
 def refusals(call, enums):
-    """What a call may answer in the place of its result, but for want of memory."""
+    """What a call may return instead of its result, except for lack of memory."""
     if re.match(r"Option<", call.answer):
         return ["None"]
     for name in re.findall(r"\w+", call.answer):
@@ -208,8 +208,8 @@ def refusals(call, enums):
     return [kind[1]] if kind[1] == "Failed" else []
 
 
-def wants_memory(call, enums):
-    """Whether the answer can say that memory ran out, be it by a status or by what was handed in, which comes back."""
+def may_lack_memory(call, enums):
+    """Whether the result can report that memory ran out, by a status or by returning the arguments."""
     return says_no_memory(call.answer, enums) or "u8" in call.answer and "alloc" in call.signature or bool(
         re.search(r", (T|Office<K>|u8)>$", call.answer))
 
@@ -222,17 +222,17 @@ def sentences(crate):
 
 
 def row_of(crate, call, enums, said):
-    """The row of a call that may answer otherwise, wait or want memory, or nothing."""
-    others, memory = refusals(call, enums), wants_memory(call, enums)
+    """The row of a call that may return something else, wait or run out of memory. Otherwise nothing."""
+    others, memory = refusals(call, enums), may_lack_memory(call, enums)
     if not (others or memory or call.waits):
         return None
     named = LEFT.get(f"{crate}.{call.name}")
     if named is None and call.lends and (others or memory):
-        raise SystemExit(f"docs/calls.py doesn't say what {call.name} of {crate} leaves")
+        raise SystemExit(f"docs/calls.py has no state after {call.name} of {crate}")
     if named:
         left = " ".join(with_links(crate, said[call.name, name if name == "—" else f"`{name}`"]) for name in named.split())
     else:
-        left = "no clause speaks of it" if call.lends else "nothing is lent that could change"
+        left = "no clause says" if call.lends else "no argument can change"
     others = ", ".join(f"`{name}`" for name in others) or "—"
     return f"| `{call.name}` | {others} | {left} | {'yes' if call.waits else 'no'} | {'yes' if memory else 'no'} |"
 
@@ -248,11 +248,11 @@ def tables():
         rows = {call.name: row_of(crate, call, enums, said) for call in calls}
         lines += ["", f"### [`{crate}`](../crates/{crate}/README.md)", ""]
         if any(rows.values()):
-            lines += ["| Call | Other answers | What is left then | May wait | May want memory |", "|---|---|---|---|---|"]
+            lines += ["| Call | Other results | State after these | May wait | May run out of memory |", "|---|---|---|---|---|"]
             lines += [row for row in rows.values() if row] + [""]
         plain = [f"`{name}`" for name, row in rows.items() if not row]
         if plain:
-            lines.append(f"These answer with a value whose type names no refusal and no want of memory, and wait for nobody: {', '.join(plain)}.")
+            lines.append(f"These calls never wait, and the types of their results report neither a refusal nor lack of memory: {', '.join(plain)}.")
     return lines
 
 
@@ -275,7 +275,7 @@ def main():
     faults = [f"docs/CALLS.md: {call} has no clause {clause}" for call, clause in named if (call, clause) not in known]
     made = above + MARK + "\n" + "\n".join(tables()) + "\n"
     if sys.argv[1:]:
-        faults += ["docs/CALLS.md is stale: docs/calls.py makes it anew"] * (made != page)
+        faults += ["docs/CALLS.md is stale: run docs/calls.py"] * (made != page)
     else:
         PAGE.write_text(made)
     for fault in faults:

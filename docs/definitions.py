@@ -19,7 +19,7 @@ CALLS = ["lei_outside", "lei_code", "register_history", "delta_apply", "program_
          "lei_hall", "issuer_http", "leireg_run", "leireg_serve"]
 HEAD = """# Definitions
 
-The definitions that the contracts of the public calls reach, crate by crate, from the lowest up, each with its type. The public calls are those of {calls}. The page is made by `docs/definitions.py` from the comments in `crates/*/specs`, which stand right above the definitions: change them there. `docs/definitions.py --check` tells whether the page is stale. What is defined for parts of the program alone, or for proofs, isn't here.
+The definitions that the contracts of the public calls reach, crate by crate, from the lowest up, each with its type. The public calls are those of {calls}. The page is made by `docs/definitions.py` from the comments in `crates/*/specs`, which are right above the definitions: change them there. `docs/definitions.py --check` reports whether the page is stale. What is defined for parts of the program alone, or for proofs, isn't here.
 """
 HEADS = re.compile(r"^(?:(?:abbrev|unfoldable|opaque) )?(?P<pub>pub )?(?:(?:record|data) )?(?P<name>[^\s(:]+)(?P<rest>.*)$")
 DECLARES = re.compile(r"^(?:abbrev|unfoldable|opaque|pub|record|data)\b")
@@ -37,7 +37,7 @@ def crates():
 
 
 def signature(name, rest, following):
-    """A name with its type, or a record's with what it speaks of. Both may go on in indented lines; a record's end at `where`."""
+    """A name with its type, or a record's name with its parameters. Both may continue in indented lines, a record's up to `where`."""
     parts = [rest]
     indent = "    " if rest.lstrip().startswith(":") else "  "
     for line in following if not rest.endswith(" where") else []:

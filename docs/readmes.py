@@ -1,10 +1,10 @@
 #!/usr/bin/env python3
-"""Holds the README of each crate against its sources: it has a row for each clause of each call that the crate exports, in
+"""Checks the README of each crate against its sources: it has a row for each clause of each call that the crate exports, in
 order, and no others.
 
 A call is an exported function, a method of an exported type, or one that an exported trait asks for.
 
-usage: docs/readmes.py             ends with status 1, and says what is stale, if something is
+usage: docs/readmes.py             ends with status 1, and reports what is stale, if anything is
        docs/readmes.py --rows CRATE    prints the rows that the README of a crate is to have, with empty sentences
 """
 import pathlib

@@ -1,8 +1,8 @@
 #!/usr/bin/env python3
-"""Holds docs/THEOREM.md against the sources: each formula stands word for word in the file that is named above it, each
-table has the `ensures` clauses of its function in order and no others, and each file that is named is there.
+"""Checks docs/THEOREM.md against the sources: each formula is word for word in the file that is named above it, each
+table has the `ensures` clauses of its function in order and no others, and each file that is named exists.
 
-usage: docs/theorem.py    ends with status 1, and says what is stale, if something is
+usage: docs/theorem.py    ends with status 1, and reports what is stale, if anything is
 """
 import pathlib
 import re
