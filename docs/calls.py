@@ -23,7 +23,11 @@ MARK = "<!-- what follows is made by docs/calls.py -->"
 APART = {"example_sessions", "worked_examples", "register_tests", "leireg"}
 VARIANT = re.compile(r"^    (\w+)(?:\((.*)\)|(?: \{.*)?),?$")
 # The types of results whose variants say how a call ended.
-OUTCOMES = ["Came", "Checked", "DeskEnd", "Ended", "HeadRead", "HttpRead", "JudgeStop", "Place", "Readied", "Seen", "Walked"]
+OUTCOMES = [
+    "example_sessions.Place", "http_heads.HeadRead", "issuer_http.Ended", "issuer_http.HttpRead", "lei_outside.Came",
+    "lei_records.Readied", "lei_records.Seen", "leireg_serve.DeskEnd", "register_judge.JudgeStop",
+    "relation_rules.Checked", "request_loop.Ended", "successor_rules.Walked", "upload_ledger.Place",
+]
 # The state after a call that may be refused and has an argument that it could change: the clauses of its README on it.
 LEFT = {
     "lei_outside.Keeper::last": "same crash",
@@ -173,12 +177,25 @@ def calls_of(crate):
                     call = None
 
 
-def variants():
-    """The variants of each enum of the crates, each with what it holds."""
+def variants(crate):
+    """The variants of each enum of a crate, each with what it holds."""
     found = {}
-    for path in ROOT.glob("crates/*/src/**/*.rt"):
-        for name, body in re.findall(r"^pub enum (\w+)(?:<.*>)? \{\n(.*?)^\}", path.read_text(), re.M | re.S):
+    for path in sorted(ROOT.glob(f"crates/{crate}/src/**/*.rt")):
+        for name, body in re.findall(r"^pub enum (\w+)(?:<[^{]*>)? \{\n(.*?)^\}", path.read_text(), re.M | re.S):
             found[name] = [match.groups(default="") for line in body.splitlines() if (match := VARIANT.match(line))]
+    return found
+
+
+def enums_in_scope(crate):
+    """The enums that the calls of a crate may name: its own, and those of the crates that it uses. Each is under its bare
+    name, with the name of its crate before it and its variants."""
+    uses = {}
+    for row in (ROOT / "crates.txt").read_text().splitlines():
+        name, _, below = row.partition(":")
+        uses[name.split()[0]] = below.split()
+    found = {}
+    for owner in [*(name for name in uses[crate] if name in uses), crate]:
+        found |= {name: (f"{owner}.{name}", held) for name, held in variants(owner).items()}
     return found
 
 
@@ -188,7 +205,7 @@ def says_no_memory(kind, enums, seen=()):
         if name in ("NoMemory", "AllocError"):
             return True
         if name in enums and name not in seen:
-            if any(variant == "NoMemory" or says_no_memory(held, enums, (*seen, name)) for variant, held in enums[name]):
+            if any(variant == "NoMemory" or says_no_memory(held, enums, (*seen, name)) for variant, held in enums[name][1]):
                 return True
     return False
 
@@ -198,13 +215,13 @@ def refusals(call, enums):
     if re.match(r"Option<", call.answer):
         return ["None"]
     for name in re.findall(r"\w+", call.answer):
-        if name in OUTCOMES:
-            return [variant for variant, _ in enums[name] if variant != "NoMemory"]
+        if name in enums and enums[name][0] in OUTCOMES:
+            return [variant for variant, _ in enums[name][1] if variant != "NoMemory"]
     if not (found := re.match(r"(?:\(.*, )?(?:io::)?Result<.*, ([^,]+?)>\)?$", call.answer)):
         return []
     kind = re.match(r"(?:\w+::)*(\w+)", found[1])
     if kind[1] in enums:
-        return [variant for variant, _ in enums[kind[1]] if variant != "NoMemory"]
+        return [variant for variant, _ in enums[kind[1]][1] if variant != "NoMemory"]
     return [kind[1]] if kind[1] == "Failed" else []
 
 
@@ -239,12 +256,12 @@ def row_of(crate, call, enums, said):
 
 def tables():
     """The tables of all crates."""
-    enums, lines = variants(), []
+    lines = []
     for crate in crates():
         calls = [] if crate in APART else list(calls_of(crate))
         if not calls:
             continue
-        said = sentences(crate)
+        said, enums = sentences(crate), enums_in_scope(crate)
         rows = {call.name: row_of(crate, call, enums, said) for call in calls}
         lines += ["", f"### [`{crate}`](../crates/{crate}/README.md)", ""]
         if any(rows.values()):
