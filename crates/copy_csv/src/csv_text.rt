@@ -17,7 +17,7 @@ use std::mem;
 const MOST: usize = 32;
 
 // The writer's configuration: every field in quotes, and lines of any number of fields.
-fn quoting() -> WriterBuilder
+fn quoting_builder() -> WriterBuilder
     ensures { result ≡ all_quoted }
 {
     *WriterBuilder::new()
@@ -30,7 +30,7 @@ fn put_line(out: &mut Vec<u8>, fields: &[&[u8]]) -> Result<(), NoMemory>
     requires { 0 < length fields.now }
     ensures { OnOk result (out.new.items ≡ out.old.items ++ csv_line (read_texts fields.now)) }
 {
-    let mut writer = quoting().from_writer(mem::try_take(out)?);
+    let mut writer = quoting_builder().from_writer(mem::try_take(out)?);
     let Ok(()) = writer.write_fields(fields) else {
         return Err(NoMemory);
     };
@@ -52,7 +52,7 @@ fn put_two_lines(out: &mut Vec<u8>, fields: &[&[u8]], others: &[&[u8]]) -> Resul
     ensures begins { IfOk result (λ start. start ≡ length (out.old.items
         ++ csv_line (read_texts fields.now))) }
 {
-    let mut writer = quoting().from_writer(mem::try_take(out)?);
+    let mut writer = quoting_builder().from_writer(mem::try_take(out)?);
     let Ok(()) = writer.write_fields(fields) else {
         return Err(NoMemory);
     };

@@ -6,7 +6,7 @@ use lei_outside::{NoMemory, Text};
 use std::alloc::{AllocError, Global};
 
 /// The text before the first of these characters and the text after it, if there is one.
-pub fn cut(text: &str, at: char) -> Option<(&str, &str)>
+pub fn cut_text_at(text: &str, at: char) -> Option<(&str, &str)>
     requires { at < 128 }
     ensures { option_map (λ parts. (parts.0.now, parts.1.now)) result ≡ Cuts.cut_at_byte at text.now }
 {

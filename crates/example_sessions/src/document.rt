@@ -3,7 +3,7 @@ ghost use Rattle.std.specs.Prelude.{◌≡◌, ◌↔◌, Some, None, IsTrue, If
 ghost use Rattle.example_sessions.specs.Documents;
 ghost use Rattle.example_sessions.specs.Reading.{ExampleGives, ExampleFails};
 
-use crate::cuts::{cut, pieces};
+use crate::cuts::{cut_text_at, pieces};
 use crate::fault::Fault;
 use crate::filling::text_parts;
 use crate::session::Session;
@@ -148,7 +148,7 @@ impl Document {
 fn block_place(alloc: Global, line: &str) -> Result<Place, NoMemory>
     ensures { IfOk result (λ place. place ≡ Documents.block_place line.now) }
 {
-    match cut(line, ' ') {
+    match cut_text_at(line, ' ') {
         Some((word, title)) if word == "```session" => {
             Ok(Place::Session(Session::new(alloc, title)?))
         }
@@ -161,7 +161,7 @@ fn block_place(alloc: Global, line: &str) -> Result<Place, NoMemory>
 fn known_after(alloc: Global, known: Vec<Named>, line: &str) -> Result<Vec<Named>, Fault>
     ensures { ExampleGives (λ made. made.items) result (Documents.known_after known.items line.now) }
 {
-    let Some((head, text)) = cut(line, '=') else {
+    let Some((head, text)) = cut_text_at(line, '=') else {
         return Err(Fault::Form);
     };
     let words = pieces(alloc, head, ' ')?;

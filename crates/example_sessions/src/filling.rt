@@ -4,7 +4,7 @@ ghost use Rattle.example_sessions.specs.Filling;
 ghost use Rattle.example_sessions.specs.Reading.{ExampleGives, append_both};
 ghost use Rattle.example_sessions.specs.Texts;
 
-use crate::cuts::{cut, pieces};
+use crate::cuts::{cut_text_at, pieces};
 use crate::fault::Fault;
 use crate::numbers::number_of;
 use crate::texts::{Named, Part, index_of, plain, text_named};
@@ -58,7 +58,7 @@ fn put_piece(
     ensures { ExampleGives (λ made. made.items) result
         (append_both (Some parts.items) (Filling.piece_parts known.now parameters.now piece.now)) }
 {
-    let Some((inside, after)) = cut(piece, '>') else {
+    let Some((inside, after)) = cut_text_at(piece, '>') else {
         return Err(Fault::Form);
     };
     let words = pieces(alloc, inside, ' ')?;

@@ -7,7 +7,7 @@ ghost use Rattle.example_sessions.specs.Sessions;
 ghost use Rattle.example_sessions.specs.Texts;
 
 use crate::codes::code_of;
-use crate::cuts::{cut, pieces};
+use crate::cuts::{cut_text_at, pieces};
 use crate::fault::Fault;
 use crate::filling::text_parts;
 use crate::numbers::number_of;
@@ -228,7 +228,7 @@ impl Run {
     fn with_change(mut self, alloc: Global, rest: &str) -> Result<Self, Fault>
         ensures { ExampleGives (λ run. run) result (Sessions.with_change self rest.now) }
     {
-        let Some((number, answer)) = cut(rest, ' ') else {
+        let Some((number, answer)) = cut_text_at(rest, ' ') else {
             return Err(Fault::Form);
         };
         let Some(number) = number_of(number, 1_000_000) else {
@@ -245,7 +245,7 @@ impl Run {
     fn with_rules(mut self, rest: &str) -> Result<Self, Fault>
         ensures { ExampleGives (λ run. run) result (Sessions.with_rules self rest.now) }
     {
-        let Some((number, rules)) = cut(rest, ' ') else {
+        let Some((number, rules)) = cut_text_at(rest, ' ') else {
             return Err(Fault::Form);
         };
         let Some(number) = number_of(number, 1_000_000) else {
@@ -328,13 +328,13 @@ impl Run {
     fn with_each(self, alloc: Global, known: &[Named], range: &str) -> Result<Self, Fault>
         ensures { ExampleGives (λ run. run) result (Sessions.with_each known.now self range.now) }
     {
-        let Some((first, rest)) = cut(range, ' ') else {
+        let Some((first, rest)) = cut_text_at(range, ' ') else {
             return Err(Fault::Form);
         };
-        let Some((last, line)) = cut(rest, ' ') else {
+        let Some((last, line)) = cut_text_at(rest, ' ') else {
             return Err(Fault::Form);
         };
-        let Some((sign, text)) = cut(line, ' ') else {
+        let Some((sign, text)) = cut_text_at(line, ' ') else {
             return Err(Fault::Form);
         };
         let (Some(first), Some(last)) = (number_of(first, 1_000_000), number_of(last, 1_000_000))

@@ -3,7 +3,7 @@ ghost use Rattle.std.specs.Prelude.{◌≡◌, ◌-◌, [], length, slice_get, I
 ghost use Rattle.example_sessions.specs.Reading.{ExampleGives};
 ghost use Rattle.example_sessions.specs.Sessions;
 
-use crate::cuts::cut;
+use crate::cuts::cut_text_at;
 use crate::fault::Fault;
 use crate::run::Run;
 use crate::texts::Named;
@@ -59,7 +59,7 @@ impl Session {
         if line.is_empty() {
             return Ok(self);
         }
-        match cut(line, ' ') {
+        match cut_text_at(line, ' ') {
             Some((word, rest)) => self.with_word(alloc, known, word, rest),
             None => self.with_word(alloc, known, line, ""),
         }

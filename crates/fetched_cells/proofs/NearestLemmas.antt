@@ -10,13 +10,13 @@ use Rattle.std.proofs.Common.{refl, sym, ap, ◌∙◌, arith, get_or, drop-cons
 use Rattle.std.proofs.lemmas.List.{append-nil, drop_all, length-append, take-append-le}
 use Rattle.std.proofs.lemmas.List.Sums.{fold-append}
 use Rattle.successor_rules.specs.Chains.{Nexts}
-use Rattle.fetched_cells.specs.Nearest.{by_levels, new_ones, unmet}
+use Rattle.fetched_cells.specs.Nearest.{by_levels, new_ones, unmet_leis}
 
 -- ---- one LEI after another
 
 -- a level after those of the LEIs that weren't met were added
 abbrev pub with_unmet : List (List ℕ) → List (List ℕ) → List (List ℕ) → List (List ℕ)
-with_unmet met level leis = fold (insert_key (slice_cmp nat_cmp)) level (unmet met leis)
+with_unmet met level leis = fold (insert_key (slice_cmp nat_cmp)) level (unmet_leis met leis)
 
 filter-both : (p : List ℕ → Bool) (xs ys : List (List ℕ)) → filter p (xs ++ ys) ≡ filter p xs ++ filter p ys
 filter-both p [] ys = refl
@@ -30,7 +30,7 @@ filter-both p (x ∷ xs) ys = by (p x) (filter-both p xs ys)
 with_unmet-append : (met level xs ys : List (List ℕ)) → with_unmet met level (xs ++ ys) ≡ with_unmet met (with_unmet met level xs) ys
 with_unmet-append met level xs ys =
     ap (fold (insert_key (slice_cmp nat_cmp)) level) (filter-both (λ lei. not (is_member bytes_eq met lei)) xs ys)
-    ∙ fold-append (insert_key (slice_cmp nat_cmp)) level (unmet met xs) (unmet met ys)
+    ∙ fold-append (insert_key (slice_cmp nat_cmp)) level (unmet_leis met xs) (unmet_leis met ys)
 
 module _ (met level leis : List (List ℕ)) (i : ℕ) (lei : List ℕ) (less : i < length leis) (is : get_or leis i lei ≡ lei) where
   rest_is : drop i leis ≡ lei ∷ drop (i + 1) leis
@@ -40,13 +40,13 @@ module _ (met level leis : List (List ℕ)) (i : ℕ) (lei : List ℕ) (less : i
   pub unmet_past : is_member bytes_eq met lei ≡ true → with_unmet met level (drop i leis) ≡ with_unmet met level (drop (i + 1) leis)
   unmet_past old =
       ap (with_unmet met level) rest_is
-      ∙ ap (λ b. fold (insert_key (slice_cmp nat_cmp)) level (cond (not b) (lei ∷ unmet met (drop (i + 1) leis)) (unmet met (drop (i + 1) leis)))) old
+      ∙ ap (λ b. fold (insert_key (slice_cmp nat_cmp)) level (cond (not b) (lei ∷ unmet_leis met (drop (i + 1) leis)) (unmet_leis met (drop (i + 1) leis)))) old
 
   pub unmet_one : is_member bytes_eq met lei ≡ false
       → with_unmet met level (drop i leis) ≡ with_unmet met (insert_key (slice_cmp nat_cmp) level lei) (drop (i + 1) leis)
   unmet_one new =
       ap (with_unmet met level) rest_is
-      ∙ ap (λ b. fold (insert_key (slice_cmp nat_cmp)) level (cond (not b) (lei ∷ unmet met (drop (i + 1) leis)) (unmet met (drop (i + 1) leis)))) new
+      ∙ ap (λ b. fold (insert_key (slice_cmp nat_cmp)) level (cond (not b) (lei ∷ unmet_leis met (drop (i + 1) leis)) (unmet_leis met (drop (i + 1) leis)))) new
 
   -- an LEI adds those that it names and that weren't met
   pub names_one : (nexts : Nexts)

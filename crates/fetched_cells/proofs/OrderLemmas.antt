@@ -16,7 +16,7 @@ use Rattle.std.proofs.lemmas.Map.Text.{is_eq-slice_cmp}
 use Rattle.successor_rules.specs.Chains.{Nexts}
 use Rattle.successor_rules.proofs.AgreeLemmas.{text_laws}
 use Rattle.successor_rules.proofs.LevelLemmas.{has, same_text}
-use Rattle.fetched_cells.specs.Nearest.{distinct_leis, new_ones, unmet}
+use Rattle.fetched_cells.specs.Nearest.{distinct_leis, new_ones, unmet_leis}
 
 -- an LEI inserted at its place in a list in byte order
 abbrev put : List (List ℕ) → List ℕ → List (List ℕ)
@@ -61,15 +61,15 @@ fold-has level (x ∷ xs) y =
     turn true false h = refl
     turn false l h = refl
 
-unmet-has : (met leis : List (List ℕ)) (y : List ℕ) → has (unmet met leis) y ≡ (has leis y && not (has met y))
-unmet-has met leis y =
+unmet_leis-has : (met leis : List (List ℕ)) (y : List ℕ) → has (unmet_leis met leis) y ≡ (has leis y && not (has met y))
+unmet_leis-has met leis y =
     is_member-filter text_laws (λ lei. not (has met lei)) y (λ x is. ap (λ z. not (has met z)) (same_text y x is)) leis
 
 -- the new LEIs of a level are those that are named and weren't met
 pub new_ones-has : (nexts : Nexts) (met before : List (List ℕ)) (y : List ℕ)
     → has (new_ones nexts met before) y ≡ (has (flat_map nexts before) y && not (has met y))
 new_ones-has nexts met before y =
-    fold-has [] (unmet met (flat_map nexts before)) y ∙ unmet-has met (flat_map nexts before) y
+    fold-has [] (unmet_leis met (flat_map nexts before)) y ∙ unmet_leis-has met (flat_map nexts before) y
 
 -- ---- each once
 
@@ -124,7 +124,7 @@ order-sorted leis = fold-sorted [] leis none_sorted
 
 pub new_ones-distinct : (nexts : Nexts) (met before : List (List ℕ)) → IsDistinct bytes_eq (new_ones nexts met before)
 new_ones-distinct nexts met before =
-    sorted-distinct (new_ones nexts met before) (order-sorted (unmet met (flat_map nexts before)))
+    sorted-distinct (new_ones nexts met before) (order-sorted (unmet_leis met (flat_map nexts before)))
 
 -- ---- two lists without duplicates
 

@@ -11,8 +11,8 @@ use Rattle.lei_code.specs.Texts.{Lei}
 use Rattle.successor_rules.specs.Chains.{Nexts}
 
 -- Those of the LEIs that weren't met before.
-abbrev pub unmet : List Lei → List Lei → List Lei
-unmet met leis = filter (λ lei. not (is_member bytes_eq met lei)) leis
+abbrev pub unmet_leis : List Lei → List Lei → List Lei
+unmet_leis met leis = filter (λ lei. not (is_member bytes_eq met lei)) leis
 
 -- The different LEIs of the list, in byte order.
 abbrev pub distinct_leis : List Lei → List Lei
@@ -20,7 +20,7 @@ distinct_leis leis = fold (insert_key (slice_cmp nat_cmp)) [] leis
 
 -- The new LEIs of a level: those that the level before it names and that weren't met, each once and in byte order.
 abbrev pub new_ones : Nexts → List Lei → List Lei → List Lei
-new_ones nexts met before = distinct_leis (unmet met (flat_map nexts before))
+new_ones nexts met before = distinct_leis (unmet_leis met (flat_map nexts before))
 
 -- The new LEIs of the next n levels, level by level. `met` has the LEIs so far, and `before` the new ones of the level
 -- before.

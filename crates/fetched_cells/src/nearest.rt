@@ -6,7 +6,7 @@ ghost use Rattle.std.specs.List.{fold};
 ghost use Rattle.std.specs.Ordering.{nat_cmp};
 ghost use Rattle.successor_rules.specs.Levels.{held_nexts, known_nexts};
 ghost use Rattle.fetched_cells.specs.Nearest;
-ghost use Rattle.fetched_cells.specs.Nearest.{new_ones, unmet};
+ghost use Rattle.fetched_cells.specs.Nearest.{new_ones, unmet_leis};
 
 use lei_code::Lei;
 use lei_outside::NoMemory;
@@ -82,7 +82,7 @@ fn add_named(
     seen: &Seen<Successors>,
 ) -> Result<(), NoMemory>
     ensures { OnOk result (level.new.keys
-        ≡ fold (insert_key (slice_cmp nat_cmp)) level.old.keys (unmet met.now (held_nexts seen.now))) }
+        ≡ fold (insert_key (slice_cmp nat_cmp)) level.old.keys (unmet_leis met.now (held_nexts seen.now))) }
 {
     match seen {
         Seen::Held(named) => add_unmet(level, met, named.as_slice()),
@@ -92,7 +92,7 @@ fn add_named(
 
 fn add_unmet(level: &mut BTreeSet<Lei>, met: &[Lei], leis: &[Lei]) -> Result<(), NoMemory>
     ensures { OnOk result (level.new.keys
-        ≡ fold (insert_key (slice_cmp nat_cmp)) level.old.keys (unmet met.now leis.now)) }
+        ≡ fold (insert_key (slice_cmp nat_cmp)) level.old.keys (unmet_leis met.now leis.now)) }
 {
     for lei in leis {
         if !is_among(lei, met) {

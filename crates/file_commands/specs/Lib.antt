@@ -1,6 +1,5 @@
 pub mod Codes
 pub mod Status
-pub mod Devices
 pub mod Files
 pub mod TwoFiles
 pub mod Applying

@@ -1,7 +1,7 @@
 //! The commands over a single text. They take no memory.
 ghost use Rattle.std.specs.Prelude.{◌≡◌, [], Some, IfOk, IsErrOf};
 ghost use Rattle.std.specs.Result.{result_err};
-ghost use Rattle.file_commands.specs.Devices.{FailsIf};
+ghost use Rattle.request_loop.specs.Devices.{FailsIf};
 ghost use Rattle.lei_code.specs.Digits.{digits};
 ghost use Rattle.lei_code.specs.Fault.{fault_of};
 ghost use Rattle.file_commands.specs.Codes.{check_line, digits_fault, digits_line, line_or, WritesLine};

@@ -3,7 +3,7 @@ ghost use Rattle.std.specs.Prelude.{◌≡◌, ◌≤◌, ◌<◌, ◌++◌, [],
 ghost use Rattle.lei_outside.specs.Told.{Loses};
 ghost use Rattle.request_loop.specs.ReadBuffers.{Fills};
 ghost use Rattle.lei_outside.specs.Faults.{FailsLast};
-ghost use Rattle.file_commands.specs.Devices.{FailsIf};
+ghost use Rattle.request_loop.specs.Devices.{FailsIf};
 ghost use Rattle.file_commands.specs.Files.{IsFileStop, IsReadWhole};
 
 use crate::status::Stop;

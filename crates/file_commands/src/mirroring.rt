@@ -1,6 +1,6 @@
 //! The command that keeps a mirror of the three tables.
 ghost use Rattle.std.specs.Prelude.{◌≡◌, [], IsErrOf};
-ghost use Rattle.file_commands.specs.Devices.{FailsIf};
+ghost use Rattle.request_loop.specs.Devices.{FailsIf};
 ghost use Rattle.lei_mirror.specs.Mirrors.{empty_mirror};
 ghost use Rattle.mirror_queries.specs.Grammar.{mirror_says};
 ghost use Rattle.query_reading.specs.QueryFrames.{HoldsQuery};

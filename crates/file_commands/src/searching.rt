@@ -1,6 +1,6 @@
 //! The command that searches the names of a golden copy.
 ghost use Rattle.std.specs.Prelude.{◌≡◌, [], Err, IsErrOf};
-ghost use Rattle.file_commands.specs.Devices.{FailsIf};
+ghost use Rattle.request_loop.specs.Devices.{FailsIf};
 ghost use Rattle.search_queries.specs.Grammar.{search_says};
 ghost use Rattle.search_queries.specs.Searchers.{IsStateOf};
 ghost use Rattle.search_queries.specs.Searches.{SearchState};

@@ -1,6 +1,6 @@
 //! What commands write.
 ghost use Rattle.std.specs.Prelude.{◌≡◌, ◌∷◌, ◌++◌, [], Ok, decimal, flat_map, IsErrOf};
-ghost use Rattle.file_commands.specs.Devices.{FailsIf};
+ghost use Rattle.request_loop.specs.Devices.{FailsIf};
 ghost use Rattle.request_loop.specs.Wires.{IsSent};
 ghost use Rattle.file_commands.specs.TwoFiles.{WritesOutcome};
 ghost use Rattle.file_commands.specs.Status.{end_status};

@@ -8,7 +8,7 @@ use Rattle.lei_outside.specs.declared.entry.KeptEntry.{KeptEntry}
 use Rattle.upload_ledger.specs.History.{History, last_entry}
 use Rattle.register_history.specs.declared.damage.Damage.{Damage}
 use Rattle.register_words.specs.declared.limits.Limits.{Limits}
-use Rattle.register_history.specs.Damage.{EntryDiffers, IsEntryDamage, missing}
+use Rattle.register_history.specs.Damage.{EntryDiffers, IsEntryDamage, missing_entry}
 use Rattle.register_history.specs.Legal.{Legal, LegalAfter}
 use Rattle.lei_office.specs.Opening.{IsPageDamage, NextDiffers}
 use Rattle.register_history.specs.State.{OfficeState, office_of}
@@ -149,7 +149,7 @@ page-damage limits after upto last before tables damage kept is_last up most is_
     by_rest is.rest beyond refl front_is is.differs
   where
     by_beyond : (beyond : History) → entries_between upto (last_number tables) tables ≡ beyond → tables.entries ≡ (before ++ is.front) ++ beyond → length (before ++ is.front) + 1 ≤ upto
-        → damage ≡ missing (length (before ++ is.front) + 1) → IsEntryDamage limits tables.entries damage
+        → damage ≡ missing_entry (length (before ++ is.front) + 1) → IsEntryDamage limits tables.entries damage
     by_beyond [] none are below missed =
         let ended = ap (λ l. entry_number (last_entry l)) (are ∙ append-nil (before ++ is.front)) ∙ legal-last limits (before ++ is.front) is.legal in
         absurd (omega (arith, ended, below, most, is_last))
@@ -187,13 +187,13 @@ page-differs before page now upto i stored damage within at grown legal differs 
 
 -- after a page no entry is stored
 pub page-lacks : (before : OfficeState) (page : History) (now : OfficeState) (upto : ℕ) (damage : Damage) → now ≡ office_of before.limits (before.history ++ page) → Legal now
-    → length now.history + 1 ≤ upto → damage ≡ missing (length now.history + 1) → IsPageDamage before.limits before.history page upto damage
+    → length now.history + 1 ≤ upto → damage ≡ missing_entry (length now.history + 1) → IsPageDamage before.limits before.history page upto damage
 page-lacks before page now upto damage grown legal few missed = record {
   front = page;
   rest = [];
   are = sym (append-nil page);
   legal = subst Legal grown legal;
-  differs = subst (λ o. (length o.history + 1 ≤ upto) × (damage ≡ missing (length o.history + 1))) grown (few, missed);
+  differs = subst (λ o. (length o.history + 1 ≤ upto) × (damage ≡ missing_entry (length o.history + 1))) grown (few, missed);
 }
 
 -- one more entry was replayed

@@ -8,7 +8,7 @@ use Rattle.upload_ledger.specs.History.{History}
 use Rattle.register_words.specs.Refusals.{reply_words}
 use Rattle.register_words.specs.declared.limits.Limits.{Limits}
 use Rattle.register_history.specs.declared.damage.Damage.{Damage}
-use Rattle.register_history.specs.Damage.{DifferFirst, EntryDiffers, IsCellDamage, IsDamage, IsEntryDamage, entry_line, missing, replayed_text}
+use Rattle.register_history.specs.Damage.{DifferFirst, EntryDiffers, IsCellDamage, IsDamage, IsEntryDamage, entry_line, missing_entry, replayed_text}
 use Rattle.register_history.specs.Kept.{AreCellsOf, Keeps}
 use Rattle.register_history.specs.Legal.{IsNext, Legal}
 use Rattle.register_history.specs.Register.{held_after}
@@ -33,7 +33,7 @@ Replays before e after (Some text) = (IsNext before e → ⊥) × (text ≡ repl
 -- The difference at the next number. The page has no more entries, although it should reach the number `upto`, or its
 -- next entry differs.
 abbrev pub NextDiffers : OfficeState → ℕ → ℕ → History → Damage → Type 0
-NextDiffers office number upto [] damage = (number ≤ upto) × (damage ≡ missing number)
+NextDiffers office number upto [] damage = (number ≤ upto) × (damage ≡ missing_entry number)
 NextDiffers office number upto (e ∷ rest) damage = EntryDiffers office number e damage
 
 -- The damage is at the first stored entry of a page that doesn't continue a legal history. This history starts with the

@@ -1,7 +1,7 @@
 //! Replays stored entries: each is put again as its own request, by its own rules and at its own moment.
 ghost use Rattle.std.specs.Prelude.{◌≡◌, IfOk, IfSome, Some, option_map};
 ghost use Rattle.lei_shapes.specs.Moment.{IsMoment};
-ghost use Rattle.register_history.specs.Damage.{missing, request_in, stored_accreditation, stored_publication, stored_request, stored_upload};
+ghost use Rattle.register_history.specs.Damage.{missing_entry, request_in, stored_accreditation, stored_publication, stored_request, stored_upload};
 ghost use Rattle.register_history.specs.Legal.{rules_may_follow};
 ghost use Rattle.register_words.specs.Refusals.{reply_words};
 ghost use Rattle.register_words.specs.Requests.{HasNumberInRange};
@@ -34,7 +34,7 @@ pub fn replay_page<R: Threads + Sync>(
     for stored in page {
         let number = register.entries().len() as u64 + 1;
         if stored.seq != number {
-            return Ok(Some(missing(alloc, number)?));
+            return Ok(Some(missing_entry(alloc, number)?));
         }
         match replay(rt, alloc, register, stored)? {
             Some(replayed) => {
@@ -50,14 +50,14 @@ pub fn replay_page<R: Threads + Sync>(
     }
     let number = register.entries().len() as u64 + 1;
     if number <= upto {
-        return Ok(Some(missing(alloc, number)?));
+        return Ok(Some(missing_entry(alloc, number)?));
     }
     Ok(None)
 }
 
 // The difference if no entry of this number is stored.
-fn missing(alloc: Global, number: u64) -> Result<Damage, NoMemory>
-    ensures { IfOk result (λ damage. damage ≡ missing number) }
+fn missing_entry(alloc: Global, number: u64) -> Result<Damage, NoMemory>
+    ensures { IfOk result (λ damage. damage ≡ missing_entry number) }
 {
     Ok(Damage {
         entry: number,

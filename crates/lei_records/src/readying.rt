@@ -47,7 +47,7 @@ pub fn ready_by(alloc: Global, rules: u16, raw: &RawItem) -> Result<Readied, NoM
     requires last { rules ≤ 3 }
     ensures { IfOk result (λ item. item ≡ Items.ready (rules_of rules) raw.now) }
 {
-    let rules = Rules::numbered(rules);
+    let rules = Rules::of(rules);
     match raw {
         RawItem::Record(fields) => by_names(alloc, rules, Kind::Record, fields),
         RawItem::Relation(fields) => by_names(alloc, rules, Kind::Relation, fields),

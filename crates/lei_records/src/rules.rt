@@ -16,7 +16,7 @@ pub enum Rules {
 
 impl Rules {
     /// The rules with this number.
-    pub fn numbered(number: u16) -> Rules
+    pub fn of(number: u16) -> Rules
         requires first { 1 ≤ number }
         requires last { number ≤ 3 }
         ensures { result ≡ rules_of number }

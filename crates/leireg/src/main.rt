@@ -6,7 +6,7 @@ mod serving;
 mod store;
 
 use leireg_commands::{run_command, tell, words};
-use program_words::{Command, WantedRun, WordsFault, wanted};
+use program_words::{Command, WantedRun, WordsFault, wanted_run};
 use register_words::ExitStatus;
 use serving::serve_words;
 use std::io;
@@ -29,7 +29,7 @@ fn main(rt: HostRuntime) -> io::Result<ExitCode> {
 // Does what the words ask for, and returns the status. If it isn't `Ok`, what happened and what to do is reported to a
 // person.
 fn run_words<R: Threads + Wait + Sync>(rt: &R, host: &HostRuntime, words: &[String]) -> u8 {
-    let status = match wanted(host.alloc(), words) {
+    let status = match wanted_run(host.alloc(), words) {
         Ok(wanted) => run_wanted(rt, host, words, &wanted),
         Err(WordsFault::Usage) => ExitStatus::Usage.number(),
         Err(WordsFault::NoMemory) => ExitStatus::NoMemory.number(),

@@ -4,7 +4,7 @@ ghost use Rattle.program_words.specs.Reading.{FindsWords};
 ghost use Rattle.program_words.specs.Words.{IsInRange, invocation_of};
 ghost use Rattle.leireg_run.specs.Words.{invocation_in, unless_serving};
 
-use program_words::{Command, WordsFault, wanted};
+use program_words::{Command, WordsFault, wanted_run};
 use std::alloc::Global;
 
 /// The command that these words are, out of those that run between an input and an output: any except to serve.
@@ -14,7 +14,7 @@ pub fn command_of<'a>(alloc: Global, words: &'a [String]) -> Result<Command<'a>,
     ensures run { IfOk result
         (λ command. unless_serving (invocation_of command) ≡ Some (invocation_of command)) }
 {
-    match wanted(alloc, words)?.command {
+    match wanted_run(alloc, words)?.command {
         Command::Serve => Err(WordsFault::Usage),
         command => Ok(command),
     }

@@ -4,7 +4,7 @@ ghost use Rattle.lei_outside.specs.Count.{Rose};
 ghost use Rattle.lei_outside.specs.Faults.{FailsLast};
 ghost use Rattle.lei_outside.specs.Keeping.{KeptTables, TablesStay};
 ghost use Rattle.lei_outside.specs.Told.{Grows};
-ghost use Rattle.file_commands.specs.Devices.{FailsIf};
+ghost use Rattle.request_loop.specs.Devices.{FailsIf};
 ghost use Rattle.register_history.specs.Kept.{Keeps, StaysUntold};
 ghost use Rattle.register_words.specs.Limits.{standard};
 ghost use Rattle.lei_office.specs.Offices.{FaultRose, IsRefused, keeper_back};

@@ -45,7 +45,7 @@ fn first_space(bytes: &[u8]) -> Option<usize>
 }
 
 /// The bytes before the first space and those after it, if there is a space.
-pub fn cut(bytes: &[u8]) -> Option<(&[u8], &[u8])>
+pub fn cut_first_word(bytes: &[u8]) -> Option<(&[u8], &[u8])>
     ensures { option_map (λ parts. (parts.0.now, parts.1.now)) result ≡ cut_at_space bytes.now }
 {
     match first_space(bytes) {
@@ -59,10 +59,10 @@ pub fn cut(bytes: &[u8]) -> Option<(&[u8], &[u8])>
 fn upload_of(rest: &[u8]) -> LineWords<'_>
     ensures { asked_by_words result ≡ or_path (upload_request rest.now) }
 {
-    let Some((office, rest)) = cut(rest) else {
+    let Some((office, rest)) = cut_first_word(rest) else {
         return LineWords::Refused(Refusal::Path);
     };
-    let Some((number, body)) = cut(rest) else {
+    let Some((number, body)) = cut_first_word(rest) else {
         return LineWords::Refused(Refusal::Path);
     };
     let (Some(office), Some(number)) = (code_of(office), number_of(number)) else {
@@ -84,7 +84,7 @@ fn accreditation_of(rest: &[u8]) -> Option<Request>
 fn kept_of(rest: &[u8]) -> Option<Request>
     ensures { result ≡ kept_request rest.now }
 {
-    let Some((issuer, number)) = cut(rest) else {
+    let Some((issuer, number)) = cut_first_word(rest) else {
         return None;
     };
     let (Some(issuer), Some(number)) = (code_of(issuer), number_of(number)) else {
@@ -106,7 +106,7 @@ fn publication_of(rest: &[u8]) -> Option<Request>
 fn copy_of(rest: &[u8]) -> Option<Request>
     ensures { result ≡ copy_request rest.now }
 {
-    let Some((sheet, form)) = cut(rest) else {
+    let Some((sheet, form)) = cut_first_word(rest) else {
         return None;
     };
     let (Some(sheet), Some(form)) = (sheet_of(sheet), form_of(form)) else {
@@ -119,10 +119,10 @@ fn copy_of(rest: &[u8]) -> Option<Request>
 fn delta_of(rest: &[u8]) -> Option<Request>
     ensures { result ≡ delta_request rest.now }
 {
-    let Some((base, rest)) = cut(rest) else {
+    let Some((base, rest)) = cut_first_word(rest) else {
         return None;
     };
-    let Some((sheet, form)) = cut(rest) else {
+    let Some((sheet, form)) = cut_first_word(rest) else {
         return None;
     };
     let (Some(base), Some(sheet), Some(form)) = (base_of(base), sheet_of(sheet), form_of(form))
@@ -217,7 +217,7 @@ pub fn words_of(line: &[u8]) -> LineWords<'_>
     if line.len() > MAX_LINE {
         return LineWords::Refused(Refusal::TooLong);
     }
-    match cut(line) {
+    match cut_first_word(line) {
         Some((word, rest)) => asked_with(first_word(word), rest),
         None => asked_alone(first_word(line)),
     }

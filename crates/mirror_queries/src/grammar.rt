@@ -6,7 +6,7 @@ use crate::sizes::{read_large, read_size};
 use copy_csv::Sheet;
 use lei_mirror::PacketKind;
 use lei_outside::NoMemory;
-use line_reading::requests::cut;
+use line_reading::requests::cut_first_word;
 use query_reading::{Grammar, LineMeaning, QueryRefusal};
 use register_words::sheet_of;
 use std::alloc::Global;
@@ -41,7 +41,7 @@ impl Grammar for MirrorGrammar {
     ghost says = { mirror_says };
 
     fn read(&self, _alloc: Global, line: &[u8]) -> Result<MirrorMeaning, NoMemory> {
-        match cut(line) {
+        match cut_first_word(line) {
             Some((word, rest)) => Ok(read_words(word, rest)),
             None => Ok(read_alone(line)),
         }
@@ -90,7 +90,7 @@ fn read_show(rest: &[u8]) -> MirrorMeaning
 fn read_packet(kind: PacketKind, rest: &[u8]) -> MirrorMeaning
     ensures { result ≡ packet_of kind rest.now }
 {
-    let Some((table, size)) = cut(rest) else {
+    let Some((table, size)) = cut_first_word(rest) else {
         return LineMeaning::Refused(QueryRefusal::Path);
     };
     match sheet_of(table) {

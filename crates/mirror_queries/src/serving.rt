@@ -1,9 +1,9 @@
 //! Serves one session of a mirror.
 ghost use Rattle.std.specs.Prelude.{◌≡◌, ◌<◌, ℕ, List, [], Some};
 ghost use Rattle.lei_outside.specs.Count.{Rose};
-ghost use Rattle.lei_outside.specs.Faults.{FailsLast};
 ghost use Rattle.lei_outside.specs.Links.{link_told};
 ghost use Rattle.query_reading.specs.QueryFrames.{HoldsQuery};
+ghost use Rattle.request_loop.specs.Devices.{FailsIf};
 ghost use Rattle.request_loop.specs.Serving.{Completes, Serves};
 ghost use Rattle.request_loop.specs.declared.frames.Ended.{Ended as Ending};
 ghost use Rattle.mirror_queries.specs.Answering.{MirrorStep};
@@ -45,13 +45,10 @@ pub fn serve_mirror<R, W: Wire>(
     ensures serves { Serves MirrorStep mirror_rules intake.most
         (mirror_progress server.old (W.written link.old)) (W.left link.old)
         (mirror_progress server.new (W.written link.new)) (W.left link.new) result }
-    ensures read_fault { result ≡ Ending.ReadFault
-        → FailsLast (link_told W.left W.written) W.read_faults link.old link.new }
-    ensures no_read_fault { ¬ (result ≡ Ending.ReadFault) → W.read_faults link.new ≡ W.read_faults link.old }
-    ensures write_fault { result ≡ Ending.WriteFault
-        → FailsLast (link_told W.left W.written) W.write_faults link.old link.new }
-    ensures no_write_fault { ¬ (result ≡ Ending.WriteFault)
-        → W.write_faults link.new ≡ W.write_faults link.old }
+    ensures reads { FailsIf (result ≡ Ending.ReadFault) (link_told W.left W.written)
+        W.read_faults link.old link.new }
+    ensures writes { FailsIf (result ≡ Ending.WriteFault) (link_told W.left W.written)
+        W.write_faults link.old link.new }
     ensures wire { W.lends_same link.old link.new }
     ensures complete { (bytes : List ℕ) → W.left link.old ≡ Some bytes → ¬ (result ≡ Ending.NoMemory)
         → ¬ (Rose (W.read_faults link.old) (W.read_faults link.new))

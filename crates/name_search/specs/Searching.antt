@@ -19,8 +19,8 @@ abbrev pub is_match : List Text → Name → Bool
 is_match wanted name = has_each wanted (words name.1)
 
 -- The names that have each word of a text, in order.
-abbrev pub found : List Name → Text → List Name
-found names text = filter (is_match (words text)) names
+abbrev pub found_names : List Name → Text → List Name
+found_names names text = filter (is_match (words text)) names
 
 -- The names on a page of 50; pages are counted from 1. After the last page there are none.
 abbrev pub page_of : ℕ → List Name → List Name

@@ -137,9 +137,9 @@ impl Index {
     pub fn find(&self, page: u32, text: &str) -> Result<Found, FindFault>
         requires first { 1 ≤ page }
         requires last { page ≤ 1_000_000 }
-        ensures matches { IfOk result (λ found. found.matches ≡ length (spec.found self.now.names text.now)) }
+        ensures matches { IfOk result (λ found. found.matches ≡ length (spec.found_names self.now.names text.now)) }
         ensures names { IfOk result
-            (λ found. found.names ≡ spec.page_of page (spec.found self.now.names text.now)) }
+            (λ found. found.names ≡ spec.page_of page (spec.found_names self.now.names text.now)) }
         ensures some_word { OnOk result (1 ≤ length (words text.now)) }
         ensures few_words { OnOk result (length (words text.now) ≤ 8) }
         ensures no_word { IsErrOf result Finding.NoWord → words text.now ≡ [] }

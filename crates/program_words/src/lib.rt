@@ -8,4 +8,4 @@ mod runs;
 
 pub use fault::WordsFault;
 pub use help::help_of;
-pub use runs::{Command, WantedRun, wanted};
+pub use runs::{Command, WantedRun, wanted_run};

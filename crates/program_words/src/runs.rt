@@ -70,7 +70,7 @@ pub struct WantedRun<'a> {
 
 /// What these words ask for: the program's words without its name. `clap` reads those after the first, as the options
 /// and texts of the command that the first one names.
-pub fn wanted<'a>(alloc: Global, words: &'a [String]) -> Result<WantedRun<'a>, WordsFault>
+pub fn wanted_run<'a>(alloc: Global, words: &'a [String]) -> Result<WantedRun<'a>, WordsFault>
     ensures meant { FindsWords run_meaning (meant_run (map string_bytes words.now)) result }
     ensures range { IfOk result AreInRange }
 {

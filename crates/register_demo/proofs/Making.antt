@@ -13,7 +13,7 @@ use Rattle.register_history.specs.State.{OfficeState}
 use Rattle.register_demo.specs.Marks.{row_count_in}
 use Rattle.register_demo.specs.Plan.{block_count}
 use Rattle.register_demo.specs.Requests.{RepliesFrom, accreditations, deltas, demo_requests, first_publication, office_from, replies_from, second_publication, uploads_of}
-use Rattle.register_demo.specs.Session.{AreReplies, DemoReplies, IsDemoTold, IsPatchedSize, MakesRecords, MakesRelationships, Repeats, has_text, is_publication_reply, patched_size, text_in_reply, texts_of_replies}
+use Rattle.register_demo.specs.Session.{AreReplies, DemoReplies, IsPatchedSize, MakesRecords, MakesRegister, MakesRelationships, Repeats, is_created_reply, is_ok_reply, patched_size, text_in_reply, texts_of_replies}
 use Rattle.register_demo.specs.declared.plan.Group.{Group}
 use Rattle.register_demo.specs.declared.plan.Group.TheVariants.{Records, Relationships}
 use Rattle.register_demo.specs.declared.summary.Told.{Told}
@@ -65,7 +65,7 @@ makes-relationships n count behind o1 o2 o3 old new publication begins texts lea
 
 -- the records were sent once more, and the deltas were asked for
 pub repeats : (n count behind told : ℕ) (o1 o2 o3 : OfficeState) (lei rr : Reply)
-    → count ≡ 2 * block_count n + 6 → told ≡ count_by has_text (replies_from o1 count (uploads_of Records n))
+    → count ≡ 2 * block_count n + 6 → told ≡ count_by is_ok_reply (replies_from o1 count (uploads_of Records n))
     → o2 ≡ office_from o1 count (uploads_of Records n) → behind ≡ 3 * block_count n + 6
     → RepliesFrom o2 behind deltas (lei ∷ rr ∷ []) o3 → Legal o3 → Repeats n o1 o3 told lei rr
 repeats n count behind told o1 o2 o3 lei rr begins counted leads is asked legal =
@@ -108,9 +108,9 @@ texts-append (x ∷ xs) ys = ap (λ text. text_in_reply x ++ text) (texts-append
 -- all requests were answered, and this is what the replies say
 pub tells : (n : ℕ) (o1 o2 o3 o4 : OfficeState) (new answers : List ℕ) (first copy second lei rr : Reply) (repeated : ℕ) (told : Told)
     → MakesRecords n o1 o2 [] new first copy → MakesRelationships n o2 o3 new answers second → Repeats n o3 o4 repeated lei rr
-    → told.answers.items ≡ answers → told.repeats ≡ repeated → told.publications ≡ count_by is_publication_reply (first ∷ second ∷ [])
+    → told.answers.items ≡ answers → told.repeats ≡ repeated → told.publications ≡ count_by is_created_reply (first ∷ second ∷ [])
     → told.published ≡ text_in_reply second → told.records ≡ row_count_in (text_in_reply lei) → told.relationships ≡ row_count_in (text_in_reply rr)
-    → IsPatchedSize (text_in_reply copy) (text_in_reply rr) told.applied → IsDemoTold n o1 o4 told
+    → IsPatchedSize (text_in_reply copy) (text_in_reply rr) told.applied → MakesRegister n o1 o4 told
 tells n o1 o2 o3 o4 new answers first copy second lei rr repeated told a b c is_answers is_repeated is_made published records relationships applied =
     let up = uploads_of Records n in
     let links = uploads_of Relationships n in
@@ -156,9 +156,9 @@ tells n o1 o2 o3 o4 new answers first copy second lei rr repeated told a b c is_
     }
 
 -- how many of two replies say that a publication was made
-pub two-made : (x y : Reply) (m k : ℕ) → m ≡ cond (is_publication_reply x) 1 0 → k ≡ cond (is_publication_reply y) 1 0 → m + k ≡ count_by is_publication_reply (x ∷ y ∷ [])
+pub two-made : (x y : Reply) (m k : ℕ) → m ≡ cond (is_created_reply x) 1 0 → k ≡ cond (is_created_reply y) 1 0 → m + k ≡ count_by is_created_reply (x ∷ y ∷ [])
 two-made x y m k e f =
-    ap (λ v. v + k) (e ∙ sym (zero-add (cond (is_publication_reply x) 1 0))) ∙ ap (λ v. (0 + cond (is_publication_reply x) 1 0) + v) f
+    ap (λ v. v + k) (e ∙ sym (zero-add (cond (is_created_reply x) 1 0))) ∙ ap (λ v. (0 + cond (is_created_reply x) 1 0) + v) f
 
 -- the answer for a copy and a delta, unless memory ran out
 pub patched : (copy delta : List ℕ) (result : Result (List ℕ) ApplyFault) (size : ℕ) → UnlessApplyLacksMemory result (IsAnswer copy delta Rr Csv result)

@@ -19,7 +19,7 @@ use Rattle.lei_office.proofs.Leading.{legal-last}
 use Rattle.register_history.proofs.TableLemmas.{keeps-none}
 use Rattle.register_demo.specs.Marks.{row_count_in}
 use Rattle.register_demo.specs.Requests.{demo_requests, office_from}
-use Rattle.register_demo.specs.Session.{IsDemoTold, IsSummary, counted_text, has_text, is_publication_reply, text_in_reply, texts_of_replies}
+use Rattle.register_demo.specs.Session.{IsSummary, MakesRegister, is_created_reply, is_ok_reply, summary_with_counts, text_in_reply, texts_of_replies}
 use Rattle.register_demo.specs.Summary.{delta_lines, lines_text, publication_lines, verdict_lines}
 use Rattle.register_demo.specs.declared.summary.Told.{Told}
 
@@ -60,11 +60,11 @@ all-same e e' a a' r r' p p' s s' x x' y y' z i j k l m n o =
     ∙ ap (λ v. text-with e' a' r' p' s' x' v z) o
 
 -- the summary of what the replies say
-pub summed : (n entries : ℕ) (from after : OfficeState) (told : Told) (text : List ℕ) → from ≡ new_office standard → IsDemoTold n from after told
-    → entries ≡ length after.history → text ≡ counted_text entries told → IsSummary n text
+pub summed : (n entries : ℕ) (from after : OfficeState) (told : Told) (text : List ℕ) → from ≡ new_office standard → MakesRegister n from after told
+    → entries ≡ length after.history → text ≡ summary_with_counts entries told → IsSummary n text
 summed n entries from after told text first was count printed =
-    let F : OfficeState → Type 0 = λ office. IsDemoTold n office after told in
-    let is : IsDemoTold n (new_office standard) after told = subst F first was in
+    let F : OfficeState → Type 0 = λ office. MakesRegister n office after told in
+    let is : MakesRegister n (new_office standard) after told = subst F first was in
     let r = is.replies in
     record {
       told = r;
@@ -72,8 +72,8 @@ summed n entries from after told text first was count printed =
       applied = told.applied;
       applied_is = is.applied;
       text_is = printed ∙ all-same entries (length (office_from (new_office standard) 0 (demo_requests n)).history) told.answers.items
-          (texts_of_replies (r.records ++ r.relationships)) told.repeats (count_by has_text r.repeats) told.publications
-          (count_by is_publication_reply (r.first_publication ∷ r.second_publication ∷ [])) told.published (text_in_reply r.second_publication) told.records
+          (texts_of_replies (r.records ++ r.relationships)) told.repeats (count_by is_ok_reply r.repeats) told.publications
+          (count_by is_created_reply (r.first_publication ∷ r.second_publication ∷ [])) told.published (text_in_reply r.second_publication) told.records
           (row_count_in (text_in_reply r.lei_delta)) told.relationships (row_count_in (text_in_reply r.rr_delta)) told.applied
           (count ∙ ap (λ office. length office.history) is.leads) is.answers is.repeats is.publications is.published is.records is.relationships;
     }

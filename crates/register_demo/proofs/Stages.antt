@@ -13,7 +13,7 @@ use Rattle.register_history.specs.Replies.{next, reply, Step}
 use Rattle.register_history.specs.State.{OfficeState}
 use Rattle.register_demo.specs.Plan.{block_count}
 use Rattle.register_demo.specs.Requests.{RepliesFrom, demo_upload, office_from, replies_from, request_moment, uploads_from, uploads_of}
-use Rattle.register_demo.specs.Session.{has_text, text_in_reply, texts_of_replies}
+use Rattle.register_demo.specs.Session.{is_ok_reply, text_in_reply, texts_of_replies}
 use Rattle.register_demo.specs.declared.plan.Group.{Group}
 
 -- what was done for a list of requests, of which some are left: the texts of the answers, the count of replies with the
@@ -21,7 +21,7 @@ use Rattle.register_demo.specs.declared.plan.Group.{Group}
 pub record Sending (from : OfficeState) (begin : ℕ) (all : List Request) (old : List ℕ) (office : OfficeState) (count : ℕ) (left : List Request)
     (answers : List ℕ) (told : ℕ) : Type 0 where
   pub texts : answers ++ texts_of_replies (replies_from office count left) ≡ old ++ texts_of_replies (replies_from from begin all)
-  pub counts : told + count_by has_text (replies_from office count left) ≡ count_by has_text (replies_from from begin all)
+  pub counts : told + count_by is_ok_reply (replies_from office count left) ≡ count_by is_ok_reply (replies_from from begin all)
   pub leads : office_from office count left ≡ office_from from begin all
 
 -- nothing was done
@@ -38,15 +38,15 @@ bool-most b = elim b as (λ v. from_bool v ≤ 1) [ true ↦ omega arith | false
 count-one : (told : ℕ) (was : Bool) (more : ℕ) → (told + cond was 1 0) + more ≡ told + (cond was 1 0 + more)
 count-one told was more = omega arith
 
-count-step : (answered : Reply) (rest : List Reply) → count_by has_text (answered ∷ rest) ≡ cond (has_text answered) 1 0 + count_by has_text rest
-count-step answered rest = sum_by-cons (λ r. cond (has_text r) 1 0) answered rest
+count-step : (answered : Reply) (rest : List Reply) → count_by is_ok_reply (answered ∷ rest) ≡ cond (is_ok_reply answered) 1 0 + count_by is_ok_reply rest
+count-step answered rest = sum_by-cons (λ r. cond (is_ok_reply r) 1 0) answered rest
 
 -- one more was answered
 pub sending-more : (from : OfficeState) (begin : ℕ) (all : List Request) (old : List ℕ) (office after : OfficeState) (count count' : ℕ) (left rest : List Request)
     (request : Request) (answers answers' : List ℕ) (told told' : ℕ) → Sending from begin all old office count left answers told
     → left ≡ request ∷ rest → count' ≡ count + 1 → after ≡ next office request (request_moment count)
     → answers' ≡ answers ++ text_in_reply (reply office request (request_moment count))
-    → told' ≡ told + cond (has_text (reply office request (request_moment count))) 1 0
+    → told' ≡ told + cond (is_ok_reply (reply office request (request_moment count))) 1 0
     → Sending from begin all old after count' rest answers' told'
 sending-more from begin all old office after count count' left rest request answers answers' told told' is cut more leads texts counts =
     let L : List Request → Type 0 = λ requests. Sending from begin all old office count requests answers told in
@@ -57,7 +57,7 @@ sending-more from begin all old office after count count' left rest request answ
     let C : ℕ → Type 0 = λ k. Sending from begin all old (next office request (request_moment count)) k rest answers' told' in
     subst O (sym leads) (subst C (sym more) (record {
       texts = ap (λ xs. xs ++ texts_of_replies behind) texts ∙ append_assoc answers (text_in_reply answered) (texts_of_replies behind) ∙ now.texts;
-      counts = ap (λ n. n + count_by has_text behind) counts ∙ count-one told (has_text answered) (count_by has_text behind)
+      counts = ap (λ n. n + count_by is_ok_reply behind) counts ∙ count-one told (is_ok_reply answered) (count_by is_ok_reply behind)
           ∙ ap (λ n. told + n) (sym (count-step answered behind)) ∙ now.counts;
       leads = now.leads;
     }))

@@ -76,9 +76,9 @@ demo_item_text Relationships manager i = object_text
     (fields_of_relationship (demo_code i) (demo_code (i / 2)) manager)
 
 -- the start of a body
-abbrev pub opening : Group → Text
-opening Records = codes "{\"records\":["
-opening Relationships = codes "{\"relationships\":["
+abbrev pub body_start : Group → Text
+body_start Records = codes "{\"records\":["
+body_start Relationships = codes "{\"relationships\":["
 
 -- the numbers from one to another, inclusive
 abbrev pub from_to : ℕ → ℕ → List ℕ
@@ -87,6 +87,6 @@ from_to first last = range_with_len first (last + 1 - first)
 -- the body that brings the items of a block
 unfoldable pub block_body : Group → ℕ → ℕ → Body
 block_body group n block =
-    opening group ++ (elements
+    body_start group ++ (elements
     (map (demo_item_text group (manager block)) (from_to (first_item group block) (last_item n block)))
     ++ codes "]}")

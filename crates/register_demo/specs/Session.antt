@@ -23,13 +23,13 @@ abbrev pub text_in_reply : Reply → Text
 text_in_reply (replies.Text code kind text) = text
 text_in_reply (replies.Words refusal) = []
 
--- the reply has a text, with the status code 200
-abbrev pub has_text : Reply → Bool
-has_text reply = reply_status_code reply == 200
+-- the status code of the reply is 200
+abbrev pub is_ok_reply : Reply → Bool
+is_ok_reply reply = reply_status_code reply == 200
 
--- a publication was made: the status code is 201
-abbrev pub is_publication_reply : Reply → Bool
-is_publication_reply reply = reply_status_code reply == 201
+-- the status code of the reply is 201, as that of a publication
+abbrev pub is_created_reply : Reply → Bool
+is_created_reply reply = reply_status_code reply == 201
 
 -- the texts of replies, one after the other
 abbrev pub texts_of_replies : List Reply → Text
@@ -91,8 +91,8 @@ entries_after office n = length (office_from office 0 (demo_requests n)).history
 abbrev pub summary_text : OfficeState → ℕ → DemoReplies → ℕ → Text
 summary_text office n told applied = lines_text (
     verdict_lines (entries_after office n) (texts_of_replies (told.records ++ told.relationships))
-    ++ (publication_lines (count_by has_text told.repeats)
-    (count_by is_publication_reply (told.first_publication ∷ told.second_publication ∷ []))
+    ++ (publication_lines (count_by is_ok_reply told.repeats)
+    (count_by is_created_reply (told.first_publication ∷ told.second_publication ∷ []))
     (text_in_reply told.second_publication)
     ++ delta_lines (row_count_in (text_in_reply told.lei_delta)) (row_count_in (text_in_reply told.rr_delta)) applied))
 
@@ -135,26 +135,26 @@ pub record Repeats (n : ℕ) (office after : OfficeState) (told : ℕ) (lei_delt
   pub answers : RepliesFrom office (2 * block_count n + 6) (uploads_of Records n ++ deltas)
       (replies ++ (lei_delta ∷ rr_delta ∷ [])) after
   pub each : length replies ≡ block_count n
-  pub count : told ≡ count_by has_text replies
+  pub count : told ≡ count_by is_ok_reply replies
   pub legal : Legal after
 
--- What the replies say about a register that an office made.
-pub record IsDemoTold (n : ℕ) (office after : OfficeState) (told : Told) : Type 0 where
+-- The office made a register of n records, and the replies say this about it.
+pub record MakesRegister (n : ℕ) (office after : OfficeState) (told : Told) : Type 0 where
   pub replies : DemoReplies
   pub are : AreReplies office n replies
   pub leads : after ≡ office_from office 0 (demo_requests n)
   pub legal : Legal after
   pub answers : told.answers.items ≡ texts_of_replies (replies.records ++ replies.relationships)
-  pub repeats : told.repeats ≡ count_by has_text replies.repeats
+  pub repeats : told.repeats ≡ count_by is_ok_reply replies.repeats
   pub publications : told.publications
-      ≡ count_by is_publication_reply (replies.first_publication ∷ replies.second_publication ∷ [])
+      ≡ count_by is_created_reply (replies.first_publication ∷ replies.second_publication ∷ [])
   pub published : told.published ≡ text_in_reply replies.second_publication
   pub records : told.records ≡ row_count_in (text_in_reply replies.lei_delta)
   pub relationships : told.relationships ≡ row_count_in (text_in_reply replies.rr_delta)
   pub applied : IsPatchedSize (text_in_reply replies.rr_copy) (text_in_reply replies.rr_delta) told.applied
 
 -- the summary of a register with this many entries, about which the replies say this
-abbrev pub counted_text : ℕ → Told → Text
-counted_text entries told = lines_text (verdict_lines entries told.answers.items
+abbrev pub summary_with_counts : ℕ → Told → Text
+summary_with_counts entries told = lines_text (verdict_lines entries told.answers.items
     ++ (publication_lines told.repeats told.publications told.published
     ++ delta_lines told.records told.relationships told.applied))

@@ -5,7 +5,7 @@ ghost use Rattle.register_words.specs.Requests.{HasNumberInRange};
 ghost use Rattle.register_history.specs.Replies.{next, reply};
 ghost use Rattle.register_demo.specs.Plan.{block_count};
 ghost use Rattle.register_demo.specs.Requests.{demo_upload, office_from, replies_from, request_moment, uploads_of};
-ghost use Rattle.register_demo.specs.Session.{has_text, text_in_reply, texts_of_replies};
+ghost use Rattle.register_demo.specs.Session.{is_ok_reply, text_in_reply, texts_of_replies};
 
 use crate::bodies::block_body;
 use crate::codes::issuer_of;
@@ -103,7 +103,7 @@ fn send_block<R: Threads + Sync>(
     ensures answers { OnOk result (answers.new.items ≡ answers.old.items
         ++ text_in_reply (reply office.old.office (demo_upload uploads.group uploads.n block)
         (request_moment (uploads.count + block - 1)))) }
-    ensures told { IfOk result (λ told. told ≡ has_text (reply office.old.office
+    ensures told { IfOk result (λ told. told ≡ is_ok_reply (reply office.old.office
         (demo_upload uploads.group uploads.n block) (request_moment (uploads.count + block - 1)))) }
     ensures office { OnOk result (office.new.office ≡ next office.old.office
         (demo_upload uploads.group uploads.n block) (request_moment (uploads.count + block - 1))) }
@@ -131,7 +131,7 @@ pub fn send_uploads<R: Threads + Sync, W: Sink>(
         ++ texts_of_replies (replies_from office.old.office uploads.count
         (uploads_of uploads.group uploads.n))) }
     ensures told { IfOk result (λ told. told
-        ≡ count_by has_text (replies_from office.old.office uploads.count
+        ≡ count_by is_ok_reply (replies_from office.old.office uploads.count
         (uploads_of uploads.group uploads.n))) }
     ensures office { OnOk result (office.new.office
         ≡ office_from office.old.office uploads.count (uploads_of uploads.group uploads.n)) }

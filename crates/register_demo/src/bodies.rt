@@ -1,6 +1,6 @@
 //! Builds the bodies of the uploads.
 ghost use Rattle.std.specs.Prelude.{◌≡◌, ◌≤◌, ◌++◌, decimal, flat_map, map, IfOk, OnOk};
-ghost use Rattle.register_demo.specs.Bodies.{authority_id, block_body, demo_item_text, elements, from_to, opening};
+ghost use Rattle.register_demo.specs.Bodies.{authority_id, block_body, body_start, demo_item_text, elements, from_to};
 ghost use Rattle.register_demo.specs.Plan.{block_count};
 
 use crate::codes::{manager, put_code};
@@ -162,8 +162,8 @@ fn put_items(
 }
 
 // The start of a body.
-fn opening(group: Group) -> &'static str
-    ensures { result.now ≡ opening group }
+fn body_start(group: Group) -> &'static str
+    ensures { result.now ≡ body_start group }
 {
     match group {
         Group::Records => "{\"records\":[",
@@ -180,7 +180,7 @@ pub fn block_body(alloc: Global, group: Group, n: u32, block: u32) -> Result<Sha
     ensures { IfOk result (λ body. body ≡ block_body group n block) }
 {
     let mut out = Vec::with_capacity(alloc, ROOM)?;
-    put_all(&mut out, &[opening(group)])?;
+    put_all(&mut out, &[body_start(group)])?;
     let (first, last) = (first_item(group, block), last_item(n, block));
     put_items(&mut out, group, manager(block), first, last)?;
     put_all(&mut out, &["]}"])?;

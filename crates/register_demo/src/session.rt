@@ -4,7 +4,7 @@ ghost use Rattle.register_history.specs.Legal.{Legal};
 ghost use Rattle.register_words.specs.declared.reply.Reply.{Reply as Answer};
 ghost use Rattle.register_demo.specs.Plan.{block_count};
 ghost use Rattle.register_demo.specs.Requests.{RepliesFrom, accreditations, deltas, first_publication};
-ghost use Rattle.register_demo.specs.Session.{IsDemoTold, IsPatchedSize, MakesRecords, MakesRelationships, Repeats, is_publication_reply, text_in_reply};
+ghost use Rattle.register_demo.specs.Session.{IsPatchedSize, MakesRecords, MakesRegister, MakesRelationships, Repeats, is_created_reply, text_in_reply};
 
 use crate::asking::{ask, send_uploads, text_of};
 use crate::codes::issuer_of;
@@ -163,8 +163,8 @@ fn patched_size(alloc: Global, copy: &[u8], delta: &[u8]) -> Result<usize, NoMem
 }
 
 // How many publications a reply says were made: 1 or none.
-fn made(reply: &Reply) -> u32
-    ensures value { result ≡ cond (is_publication_reply reply.now) 1 0 }
+fn publication_count(reply: &Reply) -> u32
+    ensures value { result ≡ cond (is_created_reply reply.now) 1 0 }
     ensures most { result ≤ 1 }
 {
     u32::from(reply.status_code() == 201)
@@ -180,7 +180,7 @@ pub fn make<R: Threads + Sync, W: Sink>(
 ) -> Result<Told, NoMemory>
     requires least { 2 ≤ n }
     requires most { n ≤ 100_000 }
-    ensures told { IfOk result (IsDemoTold n office.old.office office.new.office) }
+    ensures told { IfOk result (MakesRegister n office.old.office office.new.office) }
     ensures same { out.new ≡ out.old }
 {
     let mut answers = Vec::new(alloc);
@@ -191,7 +191,7 @@ pub fn make<R: Threads + Sync, W: Sink>(
     Ok(Told {
         answers,
         repeats,
-        publications: made(&first) + made(&second),
+        publications: publication_count(&first) + publication_count(&second),
         published: Bytes::copy_of(alloc, text_of(&second))?,
         records: rows_in(text_of(&lei_delta)),
         relationships: rows_in(text_of(&rr_delta)),

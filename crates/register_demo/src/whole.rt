@@ -4,7 +4,7 @@ ghost use Rattle.lei_outside.specs.Keeping.{last_number};
 ghost use Rattle.lei_outside.specs.Memory.{tables_of};
 ghost use Rattle.register_words.specs.Limits.{standard};
 ghost use Rattle.register_history.specs.State.{new_office};
-ghost use Rattle.register_demo.specs.Session.{IsSummary, counted_text};
+ghost use Rattle.register_demo.specs.Session.{IsSummary, summary_with_counts};
 ghost use Rattle.register_demo.specs.declared.summary.Told.{Told as Found};
 
 use crate::session::make;
@@ -32,7 +32,7 @@ fn summary_with(
     told: Result<Told, NoMemory>,
 ) -> Result<Bytes, NoMemory>
     ensures { IfOk result (λ text. (found : Found) × (told ≡ Ok found)
-        × (text ≡ counted_text (last_number (tables_of keeper)) found)) }
+        × (text ≡ summary_with_counts (last_number (tables_of keeper)) found)) }
 {
     let told = told?;
     let entries = entries_in(keeper)?;

@@ -106,15 +106,15 @@ abbrev pub not_next : OfficeState → KeptEntry → Damage
 not_next office e = record { entry = e.seq; kept = entry_line e; replayed = replayed_text office e }
 
 -- no entry with this number is stored
-abbrev pub missing : ℕ → Damage
-missing number = record { entry = number; kept = codes "none"; replayed = codes "NOT_AN_ENTRY" }
+abbrev pub missing_entry : ℕ → Damage
+missing_entry number = record { entry = number; kept = codes "none"; replayed = codes "NOT_AN_ENTRY" }
 
 -- The entry that is stored in place of the one with this number isn't what the replay makes, or has another number, so
 -- that none with this number is stored.
 abbrev pub EntryDiffers : OfficeState → ℕ → KeptEntry → Damage → Type 0
 EntryDiffers office number e damage =
     ((e.seq ≡ number) × (IsNext office e → ⊥) × (damage ≡ not_next office e))
-    ⊎ ((e.seq ≢ number) × (damage ≡ missing number))
+    ⊎ ((e.seq ≢ number) × (damage ≡ missing_entry number))
 
 -- The first entry that differs: those before it are a legal history, and it isn't the next entry of that history.
 pub record IsEntryDamage (limits : Limits) (entries : History) (damage : Damage) : Type 0 where

@@ -22,7 +22,7 @@ use Rattle.lei_records.specs.declared.view.RecCell.{RecCell}
 use Rattle.lei_records.specs.declared.view.Seen.{Seen}
 use Rattle.authority_rules.specs.Taken.{seen_holder, taken, unless_own}
 use Rattle.successor_rules.specs.Levels.{known_nexts, reachable}
-use Rattle.successor_rules.specs.Successors.{spread}
+use Rattle.successor_rules.specs.Successors.{walk_by_levels}
 use Rattle.successor_rules.specs.Walks.{known_next}
 use Rattle.successor_rules.proofs.ReachLemmas.{near-tells}
 use Rattle.relation_rules.specs.declared.checked.Checked.{Checked}
@@ -204,13 +204,13 @@ module _ (a b : Cells) (item : Row) (named : (key : CellKey) → Contains (recor
 
     -- by the later rules
     less_spread : (successors : List (List ℕ)) → ((key : CellKey) → Contains (level_walk a (lei_in item) successors) key → LessAt a b key)
-        → LessWalked (spread a (lei_in item) successors) (spread b (lei_in item) successors)
+        → LessWalked (walk_by_levels a (lei_in item) successors) (walk_by_levels b (lei_in item) successors)
     less_spread successors walks =
         let all = reachable (known_nexts (next_successors a)) (lei_in item) successors in
         elim (near-tells (next_successors a) (next_successors b) CellKey.Rec (lei_in item) successors (λ lei at.
         nearer (a.record_cell lei) (b.record_cell lei) (walks (CellKey.Rec lei) (Contains-map CellKey.Rec all lei (contained all lei at))))) [
-          | inl same ↦ less-walked (spread a (lei_in item) successors) (spread b (lei_in item) successors) (inl same)
-          | inr lacks ↦ less-walked (spread a (lei_in item) successors) (spread b (lei_in item) successors) (inr (CellKey.Rec lacks.0, lacks.3))
+          | inl same ↦ less-walked (walk_by_levels a (lei_in item) successors) (walk_by_levels b (lei_in item) successors) (inl same)
+          | inr lacks ↦ less-walked (walk_by_levels a (lei_in item) successors) (walk_by_levels b (lei_in item) successors) (inr (CellKey.Rec lacks.0, lacks.3))
         ]
 
     less_each : (successors : List (List ℕ)) (c d : Checked) → ((lei : List ℕ) → Contains successors lei → LessAt a b (CellKey.Rec lei))
@@ -228,7 +228,7 @@ module _ (a b : Cells) (item : Row) (named : (key : CellKey) → Contains (recor
     less_levels (successor ∷ successors) cells walks =
         let all = successor ∷ successors in
         less_each all _ _ cells
-        (less-check_walked 17 18 (spread a (lei_in item) all) (spread b (lei_in item) all) (check_key a item) (check_key b item) (less_spread all walks) less_key)
+        (less-check_walked 17 18 (walk_by_levels a (lei_in item) all) (walk_by_levels b (lei_in item) all) (check_key a item) (check_key b item) (less_spread all walks) less_key)
 
     successor_less : (lei : List ℕ) → Contains (successors_in item) lei → LessAt a b (CellKey.Rec lei)
     successor_less lei at =

@@ -23,10 +23,10 @@ use Rattle.lei_records.specs.declared.view.RowKey.{RowKey}
 use Rattle.lei_records.specs.declared.view.Seen.{Seen}
 use Rattle.authority_rules.specs.Taken.{seen_holder, taken, unless_own}
 use Rattle.successor_rules.specs.declared.walks.Walked.{Walked}
-use Rattle.successor_rules.specs.Successors.{seen_successor, spread, successor_seen, successors_seen, walk}
+use Rattle.successor_rules.specs.Successors.{seen_successor, successor_seen, successors_seen, walk, walk_by_levels}
 use Rattle.successor_rules.specs.Levels.{known_nexts, lacks_nexts, reachable}
 use Rattle.successor_rules.proofs.ReachLemmas.{spread-lacks}
-use Rattle.successor_rules.specs.Walks.{is_unknown, known_next, lacking, unless_lacking}
+use Rattle.successor_rules.specs.Walks.{first_lacking_member, is_unknown, known_next, unless_lacking}
 use Rattle.relation_rules.proofs.NeedLemmas.{exception_told, relation_told}
 use Rattle.relation_rules.specs.declared.checked.Checked.{Checked}
 use Rattle.relation_rules.specs.Checking.{check_walked, checked_of, on_seen, unless_failed}
@@ -202,7 +202,7 @@ module _ (cells : Cells) (item : Row) (key : CellKey) where
   of_walk_told : (successor : List ℕ) → successor_in item ≡ Some successor → walk cells (lei_in item) successor ≡ Walked.Missing key → Told Rules.First cells item key
   of_walk_told successor names is =
       let answers = next_successor cells in
-      let found = lacked CellKey.Rec (is_met (known_next answers) (lei_in item) successor) (lacking answers successor) (is_long (known_next answers) successor) key is in
+      let found = lacked CellKey.Rec (is_met (known_next answers) (lei_in item) successor) (first_lacking_member answers successor) (is_long (known_next answers) successor) key is in
       let test : List ℕ → Bool = λ lei. is_unknown (answers lei) in
       let all = walk_members 200 (known_next answers) successor in
       let own = CellKey.Rec found.0 in
@@ -240,7 +240,7 @@ module _ (rules : Rules) (cells : Cells) (item : Row) (key : CellKey) (by_levels
       (λ found rest. each_told successors next (λ lei at. seen_successor lei (Contains-append_right (successor ∷ []) successors lei at))
       (unless_told (first_failing (c16 found ∷ [])) (check_each cells successors next) key rest) then)
 
-  spread_wants : (successors : List (List ℕ)) → successors_in item ≡ successors → spread cells (lei_in item) successors ≡ Walked.Missing key → ToldNow
+  spread_wants : (successors : List (List ℕ)) → successors_in item ≡ successors → walk_by_levels cells (lei_in item) successors ≡ Walked.Missing key → ToldNow
   spread_wants successors are is =
       let answers = next_successors cells in
       let found = spread-lacks answers CellKey.Rec (lei_in item) successors key is in
@@ -256,8 +256,8 @@ module _ (rules : Rules) (cells : Cells) (item : Row) (key : CellKey) (by_levels
   levels_told [] are is = key_told rules cells item key is
   levels_told (successor ∷ successors) are is =
       let all = successor ∷ successors in
-      each_told all (check_walked 17 18 (spread cells (lei_in item) all) (check_key cells item)) (λ lei at. subst (λ leis. Contains leis lei) (sym are) at) is
-      (λ rest. walk_told (spread cells (lei_in item) all) (check_key cells item) key ToldNow rest (spread_wants all are) (key_told rules cells item key))
+      each_told all (check_walked 17 18 (walk_by_levels cells (lei_in item) all) (check_key cells item)) (λ lei at. subst (λ leis. Contains leis lei) (sym are) at) is
+      (λ rest. walk_told (walk_by_levels cells (lei_in item) all) (check_key cells item) key ToldNow rest (spread_wants all are) (key_told rules cells item key))
 
 module _ (cells : Cells) (item : Row) (key : CellKey) where
   successors_told : (rules : Rules) → check_successors rules cells item ≡ Checked.Missing key → Told rules cells item key

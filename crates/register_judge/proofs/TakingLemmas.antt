@@ -29,8 +29,8 @@ use Rattle.successor_rules.specs.declared.walks.Walked.{Walked}
 use Rattle.lei_records.specs.Walks.{successor_of, successors_of}
 use Rattle.lei_records.specs.Walks.{is_met, is_long}
 use Rattle.successor_rules.specs.Levels.{has_wide_levels, is_back}
-use Rattle.successor_rules.specs.Successors.{spread}
-use Rattle.successor_rules.proofs.ViewLemmas.{spread-over_table}
+use Rattle.successor_rules.specs.Successors.{walk_by_levels}
+use Rattle.successor_rules.proofs.ViewLemmas.{walk_by_levels-over_table}
 use Rattle.successor_rules.proofs.WalkLemmas.{walk-over_table}
 use Rattle.relation_rules.specs.declared.checked.Checked.{Checked}
 use Rattle.relation_rules.specs.Checking.{check_walked, checked_of, on_seen, unless_failed}
@@ -118,7 +118,7 @@ by_levels_in_turn false false false behind = refl
 
 -- the checks of an item with successors by the later rules
 pub levels_of : (cells : Cells) (item : Row) (successors : List (List ℕ)) → (length successors == 0) ≡ false
-    → check_levels cells item successors ≡ check_each cells successors (check_walked 17 18 (spread cells (lei_in item) successors) (check_key cells item))
+    → check_levels cells item successors ≡ check_each cells successors (check_walked 17 18 (walk_by_levels cells (lei_in item) successors) (check_key cells item))
 levels_of cells item [] some = cc
 levels_of cells item (successor ∷ successors) some = refl
 
@@ -130,9 +130,9 @@ levels_by_table table item (successor ∷ successors) keyed holders =
     let all = successor ∷ successors in
     let own = lei_in item in
     let behind = c19 (other_holder table item) item ∷ [] in
-    let spreads = spread-over_table table own all in
+    let spreads = walk_by_levels-over_table table own all in
     let key = key_by_table table item keyed holders in
-    each_by_table table all (check_walked 17 18 (spread (cells_of table) own all) (check_key (cells_of table) item))
+    each_by_table table all (check_walked 17 18 (walk_by_levels (cells_of table) own all) (check_key (cells_of table) item))
     ∙ ((λ i. unless_failed (first_failing (c16_each table all ∷ [])) (check_walked 17 18 (spreads i) (key i)))
     ∙ by_levels_in_turn (list_any (λ lei. is_none (record_of table lei)) all) (has_wide_levels (successors_of table) own all) (is_back (successors_of table) own all) behind)
 

@@ -11,7 +11,7 @@ use Rattle.lei_records.specs.Cells.{Cells, lei_in, successor_in, successors_in, 
 use Rattle.lei_records.specs.Checks.{FailedCheck, first_failing}
 use Rattle.lei_records.specs.Rows.{Row}
 use Rattle.authority_rules.specs.Taken.{taken}
-use Rattle.successor_rules.specs.Successors.{spread, walk}
+use Rattle.successor_rules.specs.Successors.{walk, walk_by_levels}
 use Rattle.relation_rules.specs.declared.checked.Checked.{Checked}
 use Rattle.relation_rules.specs.Checking.{check_exception, check_relation, check_walked, checked_of, on_seen, unless_failed}
 use Rattle.register_judge.specs.declared.judge.ItemOutcome.{ItemOutcome}
@@ -62,7 +62,7 @@ abbrev pub check_levels : Cells → Row → List Lei → Checked
 check_levels cells item [] = check_key cells item
 check_levels cells item (successor ∷ successors) =
     check_each cells (successor ∷ successors)
-    (check_walked 17 18 (spread cells (lei_in item) (successor ∷ successors)) (check_key cells item))
+    (check_walked 17 18 (walk_by_levels cells (lei_in item) (successor ∷ successors)) (check_key cells item))
 
 -- C16 to C19 by the given rules.
 abbrev pub check_successors : Rules → Cells → Row → Checked

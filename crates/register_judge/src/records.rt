@@ -15,9 +15,9 @@ use lei_records::numbers::{
     AUTHORITY_KEY_TAKEN, SUCCESSOR_CHAIN_LONG, SUCCESSOR_CYCLE, SUCCESSOR_UNKNOWN,
 };
 use lei_records::{CellKey, RecCell, Record, Rules, Seen, Successors, View};
-use relation_rules::{Checked, check_failure, telling};
+use relation_rules::{Checked, check_failure, check_with_lei};
 use std::alloc::Global;
-use successor_rules::{Walked, spread, walk};
+use successor_rules::{Walked, walk, walk_by_levels};
 
 /// C10 to C19, with the record that is held under the item's LEI. The key of a cell that the view lacks may be
 /// allocated.
@@ -88,10 +88,15 @@ fn check_spread<V: View>(
     successors: &Successors,
 ) -> Result<Checked, NoMemory>
     ensures { IfOk result (λ checked. checked ≡ Checking.check_walked 17 18
-        (OverViews.spread (V.cells view.now) (lei_in item.now) successors.now)
+        (OverViews.walk_by_levels (V.cells view.now) (lei_in item.now) successors.now)
         (Judging.check_key (V.cells view.now) item.now)) }
 {
-    by_walk(alloc, view, item, spread(view, &item.lei(), successors))
+    by_walk(
+        alloc,
+        view,
+        item,
+        walk_by_levels(view, &item.lei(), successors),
+    )
 }
 
 // C17 to C19, given the result of the walk along an item's successors.
@@ -151,7 +156,7 @@ fn check_key<V: View>(alloc: Global, view: &V, item: &Record) -> Result<Checked,
         return Ok(Checked::Passes);
     }
     match taken(view, item) {
-        Seen::Held(other) => Ok(Checked::Fails(telling(AUTHORITY_KEY_TAKEN, other))),
+        Seen::Held(other) => Ok(Checked::Fails(check_with_lei(AUTHORITY_KEY_TAKEN, other))),
         Seen::Empty => Ok(Checked::Passes),
         Seen::Missing => Ok(Checked::Missing(key_cell(alloc, item)?)),
     }

@@ -279,7 +279,7 @@ fn sitting(records: u32, call: &Call, terms: &EntryTerms) -> Sitting
         (day_of terms.now.moment) call.now.office }
 {
     Sitting {
-        rules: Rules::numbered(terms.rules),
+        rules: Rules::of(terms.rules),
         limit: records,
         today: day_number(terms.moment.seconds()),
         issuer: call.office,

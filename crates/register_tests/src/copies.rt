@@ -88,7 +88,7 @@ fn texts_of(alloc: Global, changes: &[Change]) -> Result<Vec<RowTexts>, NoMemory
 }
 
 // A change with these texts of its row.
-fn rendered(change: Change, texts: &RowTexts) -> TextChange<'_> {
+fn change_with_texts(change: Change, texts: &RowTexts) -> TextChange<'_> {
     match change {
         Change::Put(_) => TextChange::Put(texts),
         Change::Drop(row) => TextChange::Drop(row),
@@ -110,7 +110,7 @@ fn printed_delta(
         let Some(row) = texts.as_slice().get(changes.len()) else {
             return Err(NoMemory);
         };
-        changes.push(rendered(change, row))?;
+        changes.push(change_with_texts(change, row))?;
     }
     delta_text(alloc, Sheet::Repex, form, wide, head, changes.as_slice())
 }

@@ -3,9 +3,9 @@
 use crate::limits::{ISSUER, MOMENT, RETIRES_FOR_TWO, THREE_RECORDS, TWO_RECORDS};
 use crate::runs::accredited_and_taken;
 use crate::sqlite_keeper::{
-    DAMAGE, Damage, Ending, Failing, crashed, fused, is_answered, no_files,
+    DAMAGE, Damage, Ending, Failing, files_after_crash, files_with_fuses, is_answered, no_files,
 };
-use crate::transfer::{acknowledged, first_lines, replies};
+use crate::transfer::{acknowledged_count, first_lines, replies};
 use keeper_sqlite::SqliteKeeper;
 use lei_outside::{
     Bytes, KeepFault, Keeper, KeptCell, KeptEntry, List, NoMemory, Shared, SureKeeper,
@@ -72,16 +72,20 @@ struct Kept {
     cells: List<KeptCell>,
 }
 
-fn kept_by<K: Keeper>(keeper: &mut K) -> Result<Kept, KeepFault> {
+fn content_of_keeper<K: Keeper>(keeper: &mut K) -> Result<Kept, KeepFault> {
     let entries = keeper.entries(0, u64::MAX)?;
     let cells = keeper.cells(0, u64::MAX)?;
     Ok(Kept { entries, cells })
 }
 
 // What a store has after the lines.
-fn kept_after<R: Threads + Sync>(rt: &R, alloc: Global, lines: &[u8]) -> Result<Kept, NoMemory> {
+fn content_after_lines<R: Threads + Sync>(
+    rt: &R,
+    alloc: Global,
+    lines: &[u8],
+) -> Result<Kept, NoMemory> {
     let (_, _, mut keeper) = replies(rt, alloc, lines, SureKeeper::new(alloc))?;
-    kept_by(&mut keeper).map_err(|_: KeepFault| -> NoMemory { NoMemory })
+    content_of_keeper(&mut keeper).map_err(|_: KeepFault| -> NoMemory { NoMemory })
 }
 
 fn puts_entry<S: Alter>(conn: &mut Connection<S>, entry: &KeptEntry) -> bool {
@@ -166,7 +170,10 @@ fn is_moved<S: Alter>(conn: &mut Connection<S>) -> bool {
 }
 
 // The connection, returned if the store has form 1 and the first call over it moves it.
-fn moved<S: Alter + Drop>(alloc: Global, mut conn: Connection<S>) -> Option<Connection<S>> {
+fn connection_after_move<S: Alter + Drop>(
+    alloc: Global,
+    mut conn: Connection<S>,
+) -> Option<Connection<S>> {
     if form(&mut conn).is_some() {
         return None;
     }
@@ -209,7 +216,7 @@ const LATER: &str = concat!(
 );
 
 // The lines that make a store with cells of each kind, one of them without a row.
-fn made_by(alloc: Global) -> Result<String, NoMemory> {
+fn making_lines(alloc: Global) -> Result<String, NoMemory> {
     Ok(format!(in alloc; "ACCREDIT {ISSUER}\nUPLOAD {ISSUER} 1 {TWO_RECORDS}\n{MORE}")?)
 }
 
@@ -228,7 +235,7 @@ fn run_over<R: Threads + Sync, K: Keeper + Drop>(
     keeper: K,
 ) -> Result<Run, NoMemory> {
     let (status, written, mut keeper) = replies(rt, alloc, lines, keeper)?;
-    match kept_by(&mut keeper) {
+    match content_of_keeper(&mut keeper) {
         Ok(kept) => Ok(Run {
             status,
             written,
@@ -255,7 +262,7 @@ fn run_over_first<R: Threads + Sync>(
     kept: &Kept,
 ) -> Result<Run, NoMemory> {
     match first_in_memory(alloc, further, kept) {
-        Some(conn) => match moved(alloc, conn) {
+        Some(conn) => match connection_after_move(alloc, conn) {
             Some(conn) => run_over(rt, alloc, LATER.as_bytes(), SqliteKeeper::over(alloc, conn)),
             None => Err(NoMemory),
         },
@@ -276,10 +283,12 @@ fn first_unlike<R: Threads + Sync>(
     made: &[u8],
 ) -> Result<Option<&'static str>, NoMemory> {
     let wanted = run_over_second(rt, alloc, made)?;
-    if wanted.status != ExitStatus::Ok.number() || acknowledged(wanted.written.as_slice()) != 5 {
+    if wanted.status != ExitStatus::Ok.number()
+        || acknowledged_count(wanted.written.as_slice()) != 5
+    {
         return Ok(Some("form 2"));
     }
-    let old = kept_after(rt, alloc, made)?;
+    let old = content_after_lines(rt, alloc, made)?;
     for further in FURTHER {
         if run_over_first(rt, alloc, further, &old)? != wanted {
             return Ok(Some(further));
@@ -290,7 +299,7 @@ fn first_unlike<R: Threads + Sync>(
 
 #[test]
 fn a_store_of_form_1_answers_as_one_of_form_2(rt: HostRuntime) -> Result<(), Fail> {
-    let made = made_by(rt.alloc())?;
+    let made = making_lines(rt.alloc())?;
     let unlike = first_unlike(&rt, rt.alloc(), made.as_bytes())?;
     assert!(rt; unlike.is_none(), "{unlike:?}");
     Ok(())
@@ -330,8 +339,8 @@ fn moves_cells(alloc: Global, count: u64) -> Result<bool, NoMemory> {
             return Ok(false);
         }
     }
-    match moved(alloc, conn) {
-        Some(conn) => Ok(kept_by(&mut SqliteKeeper::over(alloc, conn)) == Ok(kept)),
+    match connection_after_move(alloc, conn) {
+        Some(conn) => Ok(content_of_keeper(&mut SqliteKeeper::over(alloc, conn)) == Ok(kept)),
         None => Ok(false),
     }
 }
@@ -380,11 +389,11 @@ fn move_and_crash<D: Crash + Drop>(
             let mut keeper = SqliteKeeper::over(alloc, conn);
             let is_answered = keeper.last().is_ok();
             match keeper.into_connection() {
-                Some(conn) => Ok((crashed(conn.into_store().close()), is_answered)),
+                Some(conn) => Ok((files_after_crash(conn.into_store().close()), is_answered)),
                 None => Err(NoMemory),
             }
         }
-        Err((_, left)) => Ok((crashed(left.into_files()), false)),
+        Err((_, left)) => Ok((files_after_crash(left.into_files()), false)),
     }
 }
 
@@ -404,7 +413,7 @@ fn form_left<R: Threads + Sync, D: Crash + Drop>(
     };
     let form = form(&mut conn).unwrap_or(1);
     let mut keeper = SqliteKeeper::over(alloc, conn);
-    let is_same = match kept_by(&mut keeper) {
+    let is_same = match content_of_keeper(&mut keeper) {
         Ok(left) => left == *kept,
         Err(_) => false,
     };
@@ -419,7 +428,7 @@ fn move_ending<R: Threads + Sync>(
     failing: Failing,
     calls: u64,
 ) -> Result<(Ending, i64), NoMemory> {
-    let files = fused(first_files(alloc, kept)?, failing, calls);
+    let files = files_with_fuses(first_files(alloc, kept)?, failing, calls);
     let (left, is_answered) = move_and_crash(alloc, files)?;
     match form_left(rt, alloc, left, kept)? {
         Some(2) if is_answered => Ok((Ending::Whole, 2)),
@@ -451,7 +460,7 @@ fn first_unstopped<R: Threads + Sync>(
 
 #[test]
 fn a_move_that_stops_at_any_call_of_a_disk_loses_nothing(rt: HostRuntime) -> Result<(), Fail> {
-    let kept = kept_after(&rt, rt.alloc(), first_lines(5))?;
+    let kept = content_after_lines(&rt, rt.alloc(), first_lines(5))?;
     for failing in [Failing::Database, Failing::Log] {
         let (calls, ending, unmoved) = first_unstopped(&rt, rt.alloc(), &kept, failing)?;
         assert!(rt;
@@ -465,7 +474,7 @@ fn a_move_that_stops_at_any_call_of_a_disk_loses_nothing(rt: HostRuntime) -> Res
 // ---- damage
 
 // The result of a run over a damaged store: its status, and what it wrote.
-fn damaged<R: Threads + Sync, S: Alter + Drop>(
+fn run_after_damage<R: Threads + Sync, S: Alter + Drop>(
     rt: &R,
     alloc: Global,
     mut conn: Connection<S>,
@@ -492,12 +501,12 @@ fn is_told_alike<R: Threads + Sync>(
     ) else {
         return Err(NoMemory);
     };
-    let Some(second) = moved(alloc, second) else {
+    let Some(second) = connection_after_move(alloc, second) else {
         return Ok(false);
     };
     let (of_second, of_first, wanted) = damage;
-    let (status, written) = damaged(rt, alloc, first, of_first.unwrap_or(of_second))?;
-    let (same_status, same) = damaged(rt, alloc, second, of_second)?;
+    let (status, written) = run_after_damage(rt, alloc, first, of_first.unwrap_or(of_second))?;
+    let (same_status, same) = run_after_damage(rt, alloc, second, of_second)?;
     Ok(status == wanted.number() && same_status == status && written == same)
 }
 
@@ -506,7 +515,7 @@ fn first_told_otherwise<R: Threads + Sync>(
     rt: &R,
     alloc: Global,
 ) -> Result<Option<&'static str>, NoMemory> {
-    let kept = kept_after(rt, alloc, first_lines(9))?;
+    let kept = content_after_lines(rt, alloc, first_lines(9))?;
     for damage in DAMAGE {
         if !is_told_alike(rt, alloc, &kept, damage)? {
             return Ok(Some(damage.0));
@@ -542,12 +551,12 @@ const CHANGED: &str = concat!(
 #[test]
 fn a_changed_answer_in_a_store_of_form_1_is_told(rt: HostRuntime) -> Result<(), Fail> {
     let lines = accredited_and_taken(rt.alloc())?;
-    let kept = kept_after(&rt, rt.alloc(), lines.as_slice())?;
+    let kept = content_after_lines(&rt, rt.alloc(), lines.as_slice())?;
     let Some(conn) = by_rules_1(rt.alloc(), &kept) else {
         return Err("the store can't be made")?;
     };
     let change = "UPDATE entry SET answer = x'78' WHERE seq = 2";
-    let (status, written) = damaged(&rt, rt.alloc(), conn, change)?;
+    let (status, written) = run_after_damage(&rt, rt.alloc(), conn, change)?;
     assert!(rt; status == ExitStatus::StoreDamaged.number());
     assert!(rt; written.as_slice() == CHANGED.as_bytes());
     Ok(())
@@ -564,7 +573,7 @@ const TAKEN: &str =
     r#"{"entry":4,"issuer":"506700GE1G29325QX363","items":["ACCEPTED"],"number":3}"#;
 
 // The entry with that answer.
-fn refused(alloc: Global) -> Result<KeptEntry, NoMemory> {
+fn refused_entry(alloc: Global) -> Result<KeptEntry, NoMemory> {
     Ok(KeptEntry {
         seq: 3,
         kind: 2,
@@ -578,13 +587,13 @@ fn refused(alloc: Global) -> Result<KeptEntry, NoMemory> {
 }
 
 // A store of form 1 with three records and that entry. All its entries have rules 1.
-fn with_refused<R: Threads + Sync>(
+fn store_with_refused_entry<R: Threads + Sync>(
     rt: &R,
     alloc: Global,
 ) -> Result<Option<Connection<MemStore>>, NoMemory> {
     let lines = format!(in alloc; "ACCREDIT {ISSUER}\nUPLOAD {ISSUER} 1 {THREE_RECORDS}\n")?;
-    let kept = kept_after(rt, alloc, lines.as_bytes())?;
-    let entry = refused(alloc)?;
+    let kept = content_after_lines(rt, alloc, lines.as_bytes())?;
+    let entry = refused_entry(alloc)?;
     let Some(mut conn) = by_rules_1(alloc, &kept) else {
         return Ok(None);
     };
@@ -594,7 +603,7 @@ fn with_refused<R: Threads + Sync>(
 // The rules of the entry that the store gets if the refused upload is sent once more, and again with the next number,
 // and both get the correct answers.
 fn rules_of_next<R: Threads + Sync>(rt: &R, alloc: Global) -> Result<Option<i64>, NoMemory> {
-    let Some(conn) = with_refused(rt, alloc)? else {
+    let Some(conn) = store_with_refused_entry(rt, alloc)? else {
         return Ok(None);
     };
     let lines = format!(in alloc;

@@ -260,7 +260,7 @@ fn peer_of(rt: &HostRuntime, address: SocketAddr, requests: &[u8]) -> io::Result
 }
 
 // What is sent to a peer, in at most 1,000 pieces.
-fn received(alloc: Global, mut peer: TcpStream) -> io::Result<Vec<u8>> {
+fn received_bytes(alloc: Global, mut peer: TcpStream) -> io::Result<Vec<u8>> {
     let mut bytes = Vec::new(alloc);
     let mut buffer = [0; 4_096];
     for _ in 0..1_000 {
@@ -302,7 +302,7 @@ fn desks_over<'a>(
 }
 
 // The keeper that is left by a server with these words, which serves the connections of a listener.
-fn served<R: Threads + Wait + Sync>(
+fn keeper_after_serving<R: Threads + Wait + Sync>(
     rt: &R,
     host: &HostRuntime,
     words: &[String],
@@ -357,10 +357,10 @@ fn callers_of_four_workers_are_told_one_history(rt: HostRuntime) -> Result<(), F
     }
     let words = words_of(rt.alloc(), "serve --port 0 --workers 4 --connections 4")?;
     let keeper = SureKeeper::new(rt.alloc());
-    let keeper = served(&rt, &rt, &words, &listener, keeper).ok_or("a server")?;
+    let keeper = keeper_after_serving(&rt, &rt, &words, &listener, keeper).ok_or("a server")?;
     let mut told = Vec::new(rt.alloc());
     for (number, peer) in peers.into_iter().enumerate() {
-        let replies = received(rt.alloc(), peer)?;
+        let replies = received_bytes(rt.alloc(), peer)?;
         if number < 4 {
             told.push(replies)?;
         } else {
@@ -376,8 +376,8 @@ fn callers_of_four_workers_are_told_one_history(rt: HostRuntime) -> Result<(), F
     }
     let peer = peer_of(&rt, address, &requests)?;
     let words = words_of(rt.alloc(), "serve --port 0 --workers 1 --connections 1")?;
-    let keeper = served(&rt, &rt, &words, &listener, keeper).ok_or("a server")?;
+    let keeper = keeper_after_serving(&rt, &rt, &words, &listener, keeper).ok_or("a server")?;
     forget(keeper);
-    assert!(rt; received(rt.alloc(), peer)? == told);
+    assert!(rt; received_bytes(rt.alloc(), peer)? == told);
     Ok(())
 }

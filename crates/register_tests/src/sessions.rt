@@ -25,7 +25,7 @@ fn second_lines(alloc: Global) -> Result<String, AllocError> {
 }
 
 // The result of a run over a keeper: its status, what it wrote, and the keeper.
-fn came<R: Threads + Sync, K: Keeper + Drop>(
+fn result_of_run<R: Threads + Sync, K: Keeper + Drop>(
     rt: &R,
     alloc: Global,
     words: &[String],
@@ -58,8 +58,8 @@ fn are_alike<R: Threads + Sync, K: Keeper + Drop>(
     memory: SureKeeper,
     file: K,
 ) -> Result<(bool, SureKeeper), NoMemory> {
-    let (status, written, memory) = came(rt, alloc, words, lines, memory)?;
-    let (same_status, same, _) = came(rt, alloc, words, lines, file)?;
+    let (status, written, memory) = result_of_run(rt, alloc, words, lines, memory)?;
+    let (same_status, same, _) = result_of_run(rt, alloc, words, lines, file)?;
     let are_alike = status == ExitStatus::Ok.number()
         && same_status == ExitStatus::Ok.number()
         && written == same

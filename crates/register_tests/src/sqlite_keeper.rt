@@ -51,7 +51,7 @@ pub fn no_files(alloc: Global) -> Files<Memory> {
 }
 
 /// These files. One of them passes on this many calls, and fails at each call after that.
-pub fn fused(files: Files<Memory>, failing: Failing, calls: u64) -> Files<Fuse<Memory>> {
+pub fn files_with_fuses(files: Files<Memory>, failing: Failing, calls: u64) -> Files<Fuse<Memory>> {
     let (of_log, of_db) = match failing {
         Failing::Log => (calls, u64::MAX),
         Failing::Database => (u64::MAX, calls),
@@ -64,7 +64,7 @@ pub fn fused(files: Files<Memory>, failing: Failing, calls: u64) -> Files<Fuse<M
 }
 
 /// The files after a crash of both.
-pub fn crashed<D: Crash>(mut files: Files<D>) -> Files<D> {
+pub fn files_after_crash<D: Crash>(mut files: Files<D>) -> Files<D> {
     files.log.crash();
     files.db.crash();
     files
@@ -91,7 +91,7 @@ fn run_and_crash<R: Threads + Sync, D: Crash + Drop>(
     match Connection::open_files(alloc, files, Options::new(7)) {
         Ok(conn) => crash_after(rt, alloc, conn),
         Err((_, left)) => Ok(Left {
-            files: crashed(left.into_files()),
+            files: files_after_crash(left.into_files()),
             acknowledged: 0,
             has_failed: true,
         }),
@@ -107,7 +107,7 @@ fn crash_after<R: Threads + Sync, D: Crash + Drop>(
     let has_failed = keeper.faults() > 0;
     match keeper.into_connection() {
         Some(conn) => Ok(Left {
-            files: crashed(conn.into_store().close()),
+            files: files_after_crash(conn.into_store().close()),
             acknowledged: course.acknowledged,
             has_failed,
         }),
@@ -163,7 +163,7 @@ fn session_ending<R: Threads + Sync>(
     failing: Failing,
     calls: u64,
 ) -> Result<Ending, NoMemory> {
-    let left = run_and_crash(rt, alloc, fused(no_files(alloc), failing, calls))?;
+    let left = run_and_crash(rt, alloc, files_with_fuses(no_files(alloc), failing, calls))?;
     let has_failed = left.has_failed;
     if !is_safe(rt, alloc, left.files, left.acknowledged)? {
         return Ok(Ending::Lost);

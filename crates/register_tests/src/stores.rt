@@ -114,13 +114,13 @@ fn cells_with(
         }
     }
     if matches!(change, Change::OneCellMore) {
-        list.push(withdrawn(alloc)?)?;
+        list.push(cell_without_row(alloc)?)?;
     }
     Ok(List::from(list))
 }
 
 // A cell of the last kind without a row, which the second entry touched.
-fn withdrawn(alloc: Global) -> Result<KeptCell, NoMemory> {
+fn cell_without_row(alloc: Global) -> Result<KeptCell, NoMemory> {
     Ok(KeptCell {
         kind: 3,
         name: Bytes::copy_of(alloc, b"A")?,
@@ -179,7 +179,11 @@ fn lines(alloc: Global) -> Result<String, AllocError> {
 }
 
 // A keeper with what these lines leave.
-fn kept<R: Threads + Sync>(rt: &R, alloc: Global, words: &[String]) -> Result<MapKeeper, NoMemory> {
+fn keeper_after_lines<R: Threads + Sync>(
+    rt: &R,
+    alloc: Global,
+    words: &[String],
+) -> Result<MapKeeper, NoMemory> {
     let lines = lines(alloc)?;
     let mut source = SureSource::new(Bytes::copy_of(alloc, lines.as_bytes())?, 65_536);
     let mut sink = SureSink::new(alloc, usize::MAX);
@@ -226,7 +230,7 @@ fn begins_with(alloc: Global, text: &[u8], number: u64) -> bool {
 
 // The first change for which something else is reported: another answer or a missing entry, for each twentieth entry,
 // and other changes.
-fn untold<R: Threads + Sync>(
+fn first_misreported<R: Threads + Sync>(
     rt: &R,
     alloc: Global,
     words: &[String],
@@ -251,15 +255,15 @@ fn untold<R: Threads + Sync>(
 #[test]
 fn each_change_of_a_store_is_told_by_its_number(rt: HostRuntime) -> Result<(), Fail> {
     let words = words(rt.alloc())?;
-    let keeper = kept(&rt, rt.alloc(), words.as_slice())?;
+    let keeper = keeper_after_lines(&rt, rt.alloc(), words.as_slice())?;
     let (entries, cells) = tables(keeper)?;
-    let untold = untold(
+    let misreported = first_misreported(
         &rt,
         rt.alloc(),
         words.as_slice(),
         entries.as_slice(),
         cells.as_slice(),
     );
-    assert!(rt; untold.is_none(), "{untold:?}");
+    assert!(rt; misreported.is_none(), "{misreported:?}");
     Ok(())
 }

@@ -115,13 +115,13 @@ pub fn replies<R: Threads + Sync, K: Keeper + Drop>(
 fn course_of(status: u8, written: &[u8]) -> Course {
     Course {
         status,
-        acknowledged: acknowledged(written),
+        acknowledged: acknowledged_count(written),
         is_whole: written == REPLIES.as_bytes(),
     }
 }
 
 /// How many lines of replies start with 200, up to the first that doesn't.
-pub fn acknowledged(written: &[u8]) -> u64 {
+pub fn acknowledged_count(written: &[u8]) -> u64 {
     let mut count: u64 = 0;
     for line in written.split(|byte: &u8| -> bool { *byte == b'\n' }) {
         if !line.starts_with(b"200 ") {

@@ -1,6 +1,6 @@
 // What words ask a server to do.
 use lei_outside::NoMemory;
-use program_words::{Command, WordsFault, wanted};
+use program_words::{Command, WordsFault, wanted_run};
 use std::alloc::Global;
 use std::test::Fail;
 
@@ -66,7 +66,7 @@ fn is_server(
     connections: u64,
     store: Option<&str>,
 ) -> bool {
-    match wanted(alloc, words) {
+    match wanted_run(alloc, words) {
         Ok(run) => {
             matches!(run.command, Command::Serve)
                 && run.port == port
@@ -79,7 +79,7 @@ fn is_server(
 }
 
 fn is_refused(alloc: Global, words: &[String]) -> bool {
-    matches!(wanted(alloc, words), Err(WordsFault::Usage))
+    matches!(wanted_run(alloc, words), Err(WordsFault::Usage))
 }
 
 #[test]

@@ -20,7 +20,7 @@ use Rattle.lei_records.proofs.FindLemmas.{find-member, find-passes}
 use Rattle.authority_rules.specs.Taken.{unless_own}
 use Rattle.successor_rules.specs.declared.walks.Walked.{Walked}
 use Rattle.lei_records.specs.Walks.{is_long, is_met, walk_members}
-use Rattle.successor_rules.specs.Walks.{SeenNext, is_unknown, known_next, lacking, unless_lacking}
+use Rattle.successor_rules.specs.Walks.{SeenNext, first_lacking_member, is_unknown, known_next, unless_lacking}
 use Rattle.relation_rules.specs.declared.checked.Checked.{Checked}
 use Rattle.relation_rules.specs.Checking.{check_active, check_category, check_end, check_exception, check_held, check_managed, check_other_end, check_parents, check_put, check_relation, check_start, check_subject, check_walked, check_withdrawal, checked_of, on_seen, unless_failed, walk_parents}
 use Rattle.relation_rules.specs.Needs.{IsNeeded, exception_keys, exception_names, is_lacking, lacks, relation_names}
@@ -112,7 +112,7 @@ module _ (cells : Cells) (item : Row) (key : CellKey) where
   of_walk_told active direct is =
       let answers : SeenNext = λ lei. cells.active lei RelationType.IsDirectlyConsolidatedBy in
       let own : List ℕ → CellKey = λ lei. CellKey.Act lei RelationType.IsDirectlyConsolidatedBy in
-      let found = lacked own (is_met (known_next answers) (start_in item) (end_in item)) (lacking answers (end_in item)) (is_long (known_next answers) (end_in item)) key is in
+      let found = lacked own (is_met (known_next answers) (start_in item) (end_in item)) (first_lacking_member answers (end_in item)) (is_long (known_next answers) (end_in item)) key is in
       let test : List ℕ → Bool = λ lei. is_unknown (answers lei) in
       let all = walk_members 200 (known_next answers) (end_in item) in
       let lacking : lacks cells (own found.0) ≡ true = sym (missing_is (answers found.0)) ∙ find-passes test all found.0 found.1 in (

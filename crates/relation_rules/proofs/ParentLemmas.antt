@@ -8,7 +8,7 @@ use Rattle.lei_records.specs.Tables.{Table, cells_of, seen}
 use Rattle.lei_records.specs.Walks.{Next, is_long, is_met, walk_members}
 use Rattle.lei_records.proofs.FindLemmas.{find-none}
 use Rattle.successor_rules.specs.declared.walks.Walked.{Walked}
-use Rattle.successor_rules.specs.Walks.{SeenNext, held_lei, is_unknown, known_next, lacking, unless_lacking, walk_end, walk_over}
+use Rattle.successor_rules.specs.Walks.{SeenNext, first_lacking_member, held_lei, is_unknown, known_next, unless_lacking, walk_end, walk_over}
 use Rattle.relation_rules.specs.Checking.{walk_parents}
 
 is_known : (next : Option (List ℕ)) → (held_lei (seen next) ≡ next) × (is_unknown (seen next) ≡ false)
@@ -20,7 +20,7 @@ walk_over-known : (next : Next) (key : List ℕ → CellKey) (start first : List
 walk_over-known next key start first =
     let answers : SeenNext = λ lei. seen (next lei) in
     let same : known_next answers ≡ next = λ i lei. (is_known (next lei)).0 i in
-    let lacks : lacking answers first ≡ None = find-none (λ lei. is_unknown (answers lei)) (walk_members 200 (known_next answers) first) (λ lei. (is_known (next lei)).1) in
+    let lacks : first_lacking_member answers first ≡ None = find-none (λ lei. is_unknown (answers lei)) (walk_members 200 (known_next answers) first) (λ lei. (is_known (next lei)).1) in
     λ i. cond (is_met (same i) start first) Walked.Meets (unless_lacking key (lacks i) (cond (is_long (same i) first) Walked.Long Walked.Ends))
 
 pub walk_parents-over_table : (table : Table) (start first : List ℕ) → walk_parents (cells_of table) start first ≡ walk_end (parent_of table) start first

@@ -30,7 +30,7 @@ pub fn plain(number: u8) -> Check
 }
 
 /// A check that reports the LEI that it conflicts with.
-pub fn telling(number: u8, lei: Lei) -> Check
+pub fn check_with_lei(number: u8, lei: Lei) -> Check
     requires { IsCheckNumber number }
     ensures { result ≡ record { number = number; detail = Detail.Code lei } }
 {

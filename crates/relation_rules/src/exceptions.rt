@@ -10,7 +10,7 @@ ghost use Rattle.relation_rules.specs.Checks.{exception_checks};
 ghost use Rattle.relation_rules.specs.Needs.{exception_names, lacks};
 ghost use Rattle.relation_rules.specs.declared.checked.Checked.{Checked};
 
-use crate::checked::{Checked, check_failure, telling};
+use crate::checked::{Checked, check_failure, check_with_lei};
 use crate::checks::manager_check;
 use crate::parents::parent_type;
 use lei_code::Lei;
@@ -67,7 +67,7 @@ fn check_put<V: View>(view: &V, item: &ExceptionItem, kind: RelationType) -> Che
     ensures { item.now.1 ≡ false → result ≡ Checking.check_put (V.cells view.now) item.now kind }
 {
     match view.active(&item.lei(), kind) {
-        Seen::Held(parent) => Checked::Fails(telling(PARENT_STANDS, parent)),
+        Seen::Held(parent) => Checked::Fails(check_with_lei(PARENT_STANDS, parent)),
         Seen::Empty => Checked::Passes,
         Seen::Missing => Checked::Missing(CellKey::Act(item.lei(), kind)),
     }

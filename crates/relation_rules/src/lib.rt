@@ -10,7 +10,7 @@ mod parents;
 mod relations;
 mod statuses;
 
-pub use checked::{Checked, check_failure, plain, telling};
+pub use checked::{Checked, check_failure, check_with_lei, plain};
 pub use exceptions::exception_check;
 pub use laws::{
     accepted_items_keep_apart, accepted_relations_keep_parents, exceptions_keep_tables_sound,

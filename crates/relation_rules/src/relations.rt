@@ -13,7 +13,7 @@ ghost use Rattle.relation_rules.specs.Checks.{relation_checks};
 ghost use Rattle.relation_rules.specs.Needs.{IsNeeded, lacks};
 ghost use Rattle.relation_rules.specs.declared.checked.Checked.{Checked};
 
-use crate::checked::{Checked, check_failure, telling};
+use crate::checked::{Checked, check_failure, check_with_lei};
 use crate::checks::{held_check, own_check, start_check};
 use crate::parents::{is_direct, parent_category, walk};
 use lei_code::Lei;
@@ -115,7 +115,7 @@ fn check_end<V: View>(view: &V, item: &Relation, end: Lei) -> Checked
         (Checking.check_other_end (V.cells view.now) item.now) }
 {
     if end != item.end() {
-        return Checked::Fails(telling(ACTIVE_TAKEN, end));
+        return Checked::Fails(check_with_lei(ACTIVE_TAKEN, end));
     }
     check_parents(view, item)
 }

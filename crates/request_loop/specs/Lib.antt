@@ -1,5 +1,6 @@
 pub mod Counts
 pub mod Moments
+pub mod Devices
 pub mod Sessions
 pub mod Wires
 pub mod ReadBuffers

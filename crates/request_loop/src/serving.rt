@@ -1,8 +1,8 @@
 //! The loop that serves a session.
 ghost use Rattle.std.specs.Prelude.{◌≡◌, ◌<◌, ℕ, List, [], Some};
 ghost use Rattle.lei_outside.specs.Count.{Rose};
-ghost use Rattle.lei_outside.specs.Faults.{FailsLast};
 ghost use Rattle.lei_outside.specs.Links.{link_told};
+ghost use Rattle.request_loop.specs.Devices.{FailsIf};
 ghost use Rattle.request_loop.specs.Frames.{Fits};
 ghost use Rattle.request_loop.specs.Serving.{Completes, Serves, ended_unread, progress};
 ghost use Rattle.request_loop.specs.declared.frames.Ended.{Ended};
@@ -42,13 +42,10 @@ pub fn serve<R, A: Answers<R>, F: Framing<Asked = A::Asked, Reply = A::Reply>, L
     ensures serves { Serves A.step F.rules intake.most
         (progress who.old (C.given clock.old) (L.written link.old)) (L.left link.old)
         (progress who.new (C.given clock.new) (L.written link.new)) (L.left link.new) result }
-    ensures read_fault { result ≡ Ended.ReadFault
-        → FailsLast (link_told L.left L.written) L.read_faults link.old link.new }
-    ensures no_read_fault { ¬ (result ≡ Ended.ReadFault) → L.read_faults link.new ≡ L.read_faults link.old }
-    ensures write_fault { result ≡ Ended.WriteFault
-        → FailsLast (link_told L.left L.written) L.write_faults link.old link.new }
-    ensures no_write_fault { ¬ (result ≡ Ended.WriteFault)
-        → L.write_faults link.new ≡ L.write_faults link.old }
+    ensures reads { FailsIf (result ≡ Ended.ReadFault) (link_told L.left L.written)
+        L.read_faults link.old link.new }
+    ensures writes { FailsIf (result ≡ Ended.WriteFault) (link_told L.left L.written)
+        L.write_faults link.old link.new }
     ensures wire { L.lends_same link.old link.new }
     ensures complete { (bytes : List ℕ) → L.left link.old ≡ Some bytes → ¬ (result ≡ Ended.NoMemory)
         → ¬ (Rose (L.read_faults link.old) (L.read_faults link.new))
@@ -76,13 +73,10 @@ fn serve_on<R, A: Answers<R>, F: Framing<Asked = A::Asked, Reply = A::Reply>, L:
     ensures serves { Serves A.step F.rules intake.most
         (progress who.old (C.given clock.old) (L.written link.old)) (L.left link.old)
         (progress who.new (C.given clock.new) (L.written link.new)) (L.left link.new) result }
-    ensures read_fault { result ≡ Ended.ReadFault
-        → FailsLast (link_told L.left L.written) L.read_faults link.old link.new }
-    ensures no_read_fault { ¬ (result ≡ Ended.ReadFault) → L.read_faults link.new ≡ L.read_faults link.old }
-    ensures write_fault { result ≡ Ended.WriteFault
-        → FailsLast (link_told L.left L.written) L.write_faults link.old link.new }
-    ensures no_write_fault { ¬ (result ≡ Ended.WriteFault)
-        → L.write_faults link.new ≡ L.write_faults link.old }
+    ensures reads { FailsIf (result ≡ Ended.ReadFault) (link_told L.left L.written)
+        L.read_faults link.old link.new }
+    ensures writes { FailsIf (result ≡ Ended.WriteFault) (link_told L.left L.written)
+        L.write_faults link.old link.new }
     ensures wire { L.lends_same link.old link.new }
 {
     let mut buffer = ReadBuffer::new(intake.alloc);

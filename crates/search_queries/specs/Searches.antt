@@ -11,7 +11,7 @@ use Rattle.copy_csv.specs.declared.rows.Change.{Change}
 use Rattle.copy_forms.specs.Files.{IsDelta, IsDeltaRead}
 use Rattle.copy_forms.specs.Patching.{patched}
 use Rattle.name_search.specs.NameTables.{IsTakeFault, MayTakeDelta, NameTable, key_and_name, number_in}
-use Rattle.name_search.specs.Searching.{found}
+use Rattle.name_search.specs.Searching.{found_names}
 use Rattle.name_search.specs.Words.{words}
 use Rattle.name_search.specs.declared.faults.TakeFault.{TakeFault}
 use Rattle.name_search.specs.declared.faults.TakeFault.TheVariants as faults
@@ -56,7 +56,7 @@ abbrev pub find_by_words : SearchState → ℕ → Text → ℕ → QueryReply
 find_by_words state page text count =
     if count == 0 then replies.Refused refusals.NoWord
     else (if nat_lt 8 count then replies.Refused refusals.TooManyWords
-    else replies.Text (found_text (found (map key_and_name state.rows) text) page))
+    else replies.Text (found_text (found_names (map key_and_name state.rows) text) page))
 
 -- The reply to FIND: the text has no word, or more than 8; or the names of the rows that have each of its words.
 abbrev pub find_reply : SearchState → FindQuery → QueryReply

@@ -6,7 +6,7 @@ ghost use Rattle.search_queries.specs.Grammar.{find_of, search_says_alone, searc
 
 use crate::page::Page;
 use lei_outside::{NoMemory, Text};
-use line_reading::requests::cut;
+use line_reading::requests::cut_first_word;
 use query_reading::{Grammar, LineMeaning, QueryRefusal};
 use register_words::number_within;
 use std::alloc::Global;
@@ -38,7 +38,7 @@ impl Grammar for SearchGrammar {
     ghost says = { search_says };
 
     fn read(&self, alloc: Global, line: &[u8]) -> Result<SearchMeaning, NoMemory> {
-        match cut(line) {
+        match cut_first_word(line) {
             Some((word, rest)) => read_words(alloc, word, rest),
             None => Ok(read_alone(line)),
         }
@@ -75,7 +75,7 @@ fn read_find(alloc: Global, rest: &[u8]) -> Result<SearchMeaning, NoMemory>
     ensures ok { IfOk result (λ meaning. meaning ≡ find_of rest.now) }
     ensures err { OnErr result (IsWholeQuery (find_of rest.now)) }
 {
-    let Some((page, text)) = cut(rest) else {
+    let Some((page, text)) = cut_first_word(rest) else {
         return Ok(LineMeaning::Refused(QueryRefusal::Path));
     };
     let (Some(page), Some(text)) = (Page::read(page), text_of(text)) else {

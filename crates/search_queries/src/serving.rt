@@ -1,9 +1,9 @@
 //! A search that is served.
 ghost use Rattle.std.specs.Prelude.{◌≡◌, ◌<◌, ℕ, List, [], Some};
 ghost use Rattle.lei_outside.specs.Count.{Rose};
-ghost use Rattle.lei_outside.specs.Faults.{FailsLast};
 ghost use Rattle.lei_outside.specs.Links.{link_told};
 ghost use Rattle.query_reading.specs.QueryFrames.{HoldsQuery};
+ghost use Rattle.request_loop.specs.Devices.{FailsIf};
 ghost use Rattle.request_loop.specs.declared.frames.Ended.{Ended as Ending};
 ghost use Rattle.search_queries.specs.Grammar.{search_says};
 ghost use Rattle.search_queries.specs.Searchers.{IsStateOf};
@@ -46,13 +46,10 @@ pub fn serve_queries<R, L: Ledger, W: Wire>(
     ensures serves { (state : SearchState) → IsStateOf state searcher.old.table
         → ServesQueries searcher.old.form intake.most state (W.written link.old) (W.left link.old)
         searcher.new.table (W.written link.new) (W.left link.new) result }
-    ensures read_fault { result ≡ Ending.ReadFault
-        → FailsLast (link_told W.left W.written) W.read_faults link.old link.new }
-    ensures no_read_fault { ¬ (result ≡ Ending.ReadFault) → W.read_faults link.new ≡ W.read_faults link.old }
-    ensures write_fault { result ≡ Ending.WriteFault
-        → FailsLast (link_told W.left W.written) W.write_faults link.old link.new }
-    ensures no_write_fault { ¬ (result ≡ Ending.WriteFault)
-        → W.write_faults link.new ≡ W.write_faults link.old }
+    ensures reads { FailsIf (result ≡ Ending.ReadFault) (link_told W.left W.written)
+        W.read_faults link.old link.new }
+    ensures writes { FailsIf (result ≡ Ending.WriteFault) (link_told W.left W.written)
+        W.write_faults link.old link.new }
     ensures wire { W.lends_same link.old link.new }
     ensures complete { (state : SearchState) → IsStateOf state searcher.old.table
         → (bytes : List ℕ) → W.left link.old ≡ Some bytes → ¬ (result ≡ Ending.NoMemory)

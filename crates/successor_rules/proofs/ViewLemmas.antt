@@ -9,7 +9,7 @@ use Rattle.lei_records.specs.Rows.{Row}
 use Rattle.lei_records.specs.Walks.{successors_of}
 use Rattle.successor_rules.specs.declared.walks.Walked.{Walked}
 use Rattle.successor_rules.specs.Levels.{SeenNexts, first_lacking, has_wide_levels, held_nexts, is_back, known_nexts, lacks_nexts, others, spread_out, spread_over}
-use Rattle.successor_rules.specs.Successors.{spread, successors_seen}
+use Rattle.successor_rules.specs.Successors.{successors_seen, walk_by_levels}
 use Rattle.successor_rules.specs.Walks.{unless_lacking}
 
 none_found : (p : List ℕ → Bool) (xs : List (List ℕ)) → ((x : List ℕ) → p x ≡ false) → find p xs ≡ None
@@ -32,8 +32,8 @@ row_is_known : (found : Option Row)
 row_is_known None = (refl, refl)
 row_is_known (Some row) = (refl, refl)
 
-pub spread-over_table : (table : Table) (own : List ℕ) (first : List (List ℕ)) → spread (cells_of table) own first ≡ spread_out (successors_of table) own first
-spread-over_table table own first =
+pub walk_by_levels-over_table : (table : Table) (own : List ℕ) (first : List (List ℕ)) → walk_by_levels (cells_of table) own first ≡ spread_out (successors_of table) own first
+walk_by_levels-over_table table own first =
     let answers : SeenNexts = λ lei. successors_seen ((cells_of table).record_cell lei) in
     let same : known_nexts answers ≡ successors_of table = λ i lei. (row_is_known (row_at table lei)).0 i in
     spread-whole answers CellKey.Rec own first (λ lei. (row_is_known (row_at table lei)).1)

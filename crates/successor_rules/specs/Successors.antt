@@ -38,8 +38,8 @@ successors_seen Seen.Empty = Seen.Empty
 successors_seen Seen.Missing = Seen.Missing
 
 -- The result of the walk by levels from the successors that a record names, whose own LEI is this.
-abbrev pub spread : Cells → Lei → List Lei → Walked
-spread cells own first = spread_over (λ lei. successors_seen (cells.record_cell lei)) CellKey.Rec own first
+abbrev pub walk_by_levels : Cells → Lei → List Lei → Walked
+walk_by_levels cells own first = spread_over (λ lei. successors_seen (cells.record_cell lei)) CellKey.Rec own first
 
 -- ---- what holds for a register's successors
 

@@ -35,8 +35,8 @@ abbrev pub known_next : SeenNext → Next
 known_next answers lei = held_lei (answers lei)
 
 -- The first of the 200 members whose next one the view doesn't know. The walk, to the view's knowledge, ends there.
-abbrev pub lacking : SeenNext → Lei → Option Lei
-lacking answers first = find (λ lei. is_unknown (answers lei)) (walk_members 200 (known_next answers) first)
+abbrev pub first_lacking_member : SeenNext → Lei → Option Lei
+first_lacking_member answers first = find (λ lei. is_unknown (answers lei)) (walk_members 200 (known_next answers) first)
 
 -- The key of the cell that the view lacks, or if it lacks none, the result of the walk.
 abbrev pub unless_lacking : (Lei → CellKey) → Option Lei → Walked → Walked
@@ -48,5 +48,5 @@ unless_lacking key None walked = walked
 abbrev pub walk_over : SeenNext → (Lei → CellKey) → Lei → Lei → Walked
 walk_over answers key start first =
     if is_met (known_next answers) start first then Walked.Meets
-    else unless_lacking key (lacking answers first)
+    else unless_lacking key (first_lacking_member answers first)
     (if is_long (known_next answers) first then Walked.Long else Walked.Ends)

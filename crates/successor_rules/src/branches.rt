@@ -45,8 +45,8 @@ fn successors_seen(seen: Seen<RecCell>) -> Seen<Successors>
 /// The walk by levels of a record whose LEI is `own` and which names the successors `from`: it goes from each record to
 /// all successors that the record names. `Long` if it reaches more than 200 different LEIs. Otherwise `Missing` with
 /// the key of the first record that the view lacks, or else `Meets` if it comes back to `own`.
-pub fn spread<V: View>(view: &V, own: &Lei, from: &Successors) -> Walked
-    ensures answers { result ≡ OverViews.spread (V.cells view.now) own.now from.now }
+pub fn walk_by_levels<V: View>(view: &V, own: &Lei, from: &Successors) -> Walked
+    ensures answers { result ≡ OverViews.walk_by_levels (V.cells view.now) own.now from.now }
 
     // Over the cells of a table.
     ensures over_tables { (table : Table) → V.cells view.now ≡ cells_of table

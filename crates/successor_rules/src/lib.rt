@@ -9,7 +9,7 @@ mod spreading;
 mod successors;
 mod walks;
 
-pub use branches::{SuccessorBranches, spread};
+pub use branches::{SuccessorBranches, walk_by_levels};
 pub use found::{Found, is_among};
 pub use laws::{
     agreeing_views_tell_the_levels, clear_levels_keep_ends, clear_ways_keep_ends,

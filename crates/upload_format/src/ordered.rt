@@ -49,7 +49,7 @@ fn read_text(
         return Ok(None);
     };
     match read_lists(alloc, members)? {
-        Some(lists) => Ok(Some(joined(lists)?)),
+        Some(lists) => Ok(Some(all_items(lists)?)),
         None => Ok(None),
     }
 }
@@ -63,7 +63,7 @@ struct Lists {
 }
 
 // The items of the lists, one list after another.
-fn joined(lists: Lists) -> Result<Vec<RawItem>, NoMemory>
+fn all_items(lists: Lists) -> Result<Vec<RawItem>, NoMemory>
     ensures { IfOk result (λ items. items.items
         ≡ lists.records.items ++ lists.relations.items ++ lists.exceptions.items) }
 {

@@ -1,7 +1,7 @@
 //! The commands of the register over memory alone.
 use lei_outside::SureKeeper;
 use leireg_commands::{run_command, tell};
-use program_words::{WordsFault, wanted};
+use program_words::{WordsFault, wanted_run};
 use register_words::ExitStatus;
 use std::mem::forget;
 use std::thread::Threads;
@@ -9,7 +9,7 @@ use std::thread::Threads;
 /// Does what the words ask for, and says the status. A store is none of this program's. The runtime is handed on as one
 /// that may start threads, and as the host.
 pub fn run_words<R: Threads + Sync>(rt: &R, host: &HostRuntime, words: &[String]) -> u8 {
-    let status = match wanted(host.alloc(), words) {
+    let status = match wanted_run(host.alloc(), words) {
         Ok(wanted) => match wanted.store {
             None => {
                 let keeper = SureKeeper::new(host.alloc());

@@ -4,9 +4,9 @@
 #![tactic(auto)]
 
 mod commands;
+mod reporting;
 mod sessions;
 mod stores;
-mod telling;
 mod trial;
 
 use commands::run_words;

@@ -1,5 +1,5 @@
 //! The worked examples of files.
-use crate::telling::{tell_help, tell_session};
+use crate::reporting::{tell_help, tell_session};
 use example_sessions::{Document, Fault, LineFault, Named};
 use std::rt::Files;
 use std::thread::Threads;

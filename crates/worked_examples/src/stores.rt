@@ -3,7 +3,7 @@ use example_sessions::{Change, RulesChange, Run};
 use lei_outside::{
     Bytes, KeepFault, Keeper, KeptCell, KeptEntry, List, MapKeeper, NoMemory, Text, may_be_kept,
 };
-use program_words::wanted;
+use program_words::wanted_run;
 use std::alloc::Global;
 
 /// What a run left at the path of its store.
@@ -27,7 +27,7 @@ impl Store {
 
 /// The path of the store that the words of a run name, if they name one.
 pub fn path_of<'a>(alloc: Global, run: &'a Run) -> Option<&'a str> {
-    match wanted(alloc, run.words()) {
+    match wanted_run(alloc, run.words()) {
         Ok(wanted) => wanted.store,
         Err(_) => None,
     }

@@ -53,7 +53,7 @@ impl Devices {
         )
     }
 
-    fn came(&self, alloc: Global, status: u8) -> Result<Came, NoMemory> {
+    fn result_with_status(&self, alloc: Global, status: u8) -> Result<Came, NoMemory> {
         Ok(Came {
             written: Bytes::copy_of(alloc, self.sink.written())?,
             status,
@@ -62,7 +62,7 @@ impl Devices {
 }
 
 /// Makes a run over a keeper in memory. What it leaves at the path of its store goes behind these.
-pub fn came_in_memory<R: Threads + Sync>(
+pub fn run_in_memory<R: Threads + Sync>(
     rt: &R,
     alloc: Global,
     wanted: &Run,
@@ -77,5 +77,5 @@ pub fn came_in_memory<R: Threads + Sync>(
     if let Some(path) = path_of(alloc, wanted) {
         stores.push(Store::of(alloc, path, &mut keeper)?)?;
     }
-    Ok(devices.came(alloc, status)?)
+    Ok(devices.result_with_status(alloc, status)?)
 }

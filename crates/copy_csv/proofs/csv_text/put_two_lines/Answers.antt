@@ -10,7 +10,7 @@ pub returns-clause-lines : goal.returns-clause-lines
 returns-clause-lines c =
     let xs : List Text = read_texts c.args.fields.now in
     let all : List ℕ = c.args.out.now.items ++ csv_line xs in
-    let cfg : c.from_writer-writer.result.cfg ≡ all_quoted = c.from_writer-writer.ensures.cfg ∙ c.quoting.ensures in
+    let cfg : c.from_writer-writer.result.cfg ≡ all_quoted = c.from_writer-writer.ensures.cfg ∙ c.quoting_builder.ensures in
     let same : c.flush.new.self.cfg ≡ all_quoted = c.in-Ok-flush.ensures.setup ∙ c.in-Ok.ensures.setup ∙ cfg in
     let first : c.write_fields.new.self.wtr.inner.items ++ c.write_fields.new.self.wtr.buf ≡ all =
     csv_line-put c.from_writer-writer.result.cfg c.args.out.now.items c.from_writer-writer.result.wtr.inner.items c.from_writer-writer.result.wtr.buf
@@ -28,7 +28,7 @@ pub returns-clause-begins : goal.returns-clause-begins
 returns-clause-begins c =
     let xs : List Text = read_texts c.args.fields.now in
     let all : List ℕ = c.args.out.now.items ++ csv_line xs in
-    let cfg : c.from_writer-writer.result.cfg ≡ all_quoted = c.from_writer-writer.ensures.cfg ∙ c.quoting.ensures in
+    let cfg : c.from_writer-writer.result.cfg ≡ all_quoted = c.from_writer-writer.ensures.cfg ∙ c.quoting_builder.ensures in
     let first : c.write_fields.new.self.wtr.inner.items ++ c.write_fields.new.self.wtr.buf ≡ all =
     csv_line-put c.from_writer-writer.result.cfg c.args.out.now.items c.from_writer-writer.result.wtr.inner.items c.from_writer-writer.result.wtr.buf
     _ xs (lent-some c.args.fields.now c.requires.some) cfg

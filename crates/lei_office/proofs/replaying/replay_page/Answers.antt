@@ -1,5 +1,5 @@
 use Rattle.std.proofs.Common.{◌≡◌, ◌≢◌, ◌+◌, length, arith, inl, inr, rules, ap, subst, ◌∙◌}
-use Rattle.register_history.specs.Damage.{missing}
+use Rattle.register_history.specs.Damage.{missing_entry}
 use Rattle.lei_office.specs.Opening.{Replays}
 use Rattle.lei_office.proofs.Leading.{page-differs, page-grows}
 use Rattle.lei_office.proofs.replaying.replay_page.Goals as goal
@@ -9,8 +9,8 @@ returns-then-stored-number g c =
     let now = c.loop-stored.register in
     let counted = ap length c.entries.ensures.value in
     let other : c.stored-item.result.seq ≢ length now.history + 1 = λ is. omega (arith, is, c.if-stored-number.true, counted) in
-    page-differs c.args.register.now c.args.page.now now c.args.upto c.loop-stored.stored-index c.stored-item.result c.in_ok-missing.field-0
-    c.loop-stored-test.true (search rules) c.loop-stored.invariant c.entries.ensures.legal (inr (other, c.in_ok-missing.ensures ∙ ap (λ h. missing (length h + 1)) c.entries.ensures.value))
+    page-differs c.args.register.now c.args.page.now now c.args.upto c.loop-stored.stored-index c.stored-item.result c.in_ok-missing_entry.field-0
+    c.loop-stored-test.true (search rules) c.loop-stored.invariant c.entries.ensures.legal (inr (other, c.in_ok-missing_entry.ensures ∙ ap (λ h. missing_entry (length h + 1)) c.entries.ensures.value))
 
 pub returns-in-Some : goal.returns-in-Some
 returns-in-Some g c =

@@ -59,8 +59,8 @@ returns-clause-reads g c =
     record {
       last = λ is. fails_at (link_told (λ d. left d.input.now) (λ d. written d.out.now)) (λ d. g.S.Source.faults d.input.now)
           (λ d. d.input.now) left g.S.Source.faults (λ told. told.left) c.args.wire.now c.serve.new.link (λ d. refl) (λ d. refl)
-          (c.serve.ensures.read_fault (only_read_fault c.serve.result c.ended_as.result c.ended_as.ensures is));
-      none = λ none. c.serve.ensures.no_read_fault (λ is. none (c.ended_as.ensures ∙ ap ended_as is));
+          (c.serve.ensures.reads.last (only_read_fault c.serve.result c.ended_as.result c.ended_as.ensures is));
+      none = λ none. c.serve.ensures.reads.none (λ is. none (c.ended_as.ensures ∙ ap ended_as is));
     }
 
 pub returns-clause-writes : goal.returns-clause-writes
@@ -70,6 +70,6 @@ returns-clause-writes g c =
     record {
       last = λ is. fails_at (link_told (λ d. left d.input.now) (λ d. written d.out.now)) (λ d. g.W.Sink.faults d.out.now)
           (λ d. d.out.now) written g.W.Sink.faults (λ told. told.written) c.args.wire.now c.serve.new.link (λ d. refl) (λ d. refl)
-          (c.serve.ensures.write_fault (only_write_fault c.serve.result c.ended_as.result c.ended_as.ensures is));
-      none = λ none. c.serve.ensures.no_write_fault (λ is. none (c.ended_as.ensures ∙ ap ended_as is));
+          (c.serve.ensures.writes.last (only_write_fault c.serve.result c.ended_as.result c.ended_as.ensures is));
+      none = λ none. c.serve.ensures.writes.none (λ is. none (c.ended_as.ensures ∙ ap ended_as is));
     }

@@ -20,6 +20,7 @@ returns-clause-told g c =
     let D : List ℕ → Type 0 = λ text. IsPatchedSize (text_in_reply copy) text size in
     tells c.args.n o1 o2 c.make_relationships.new.office.office c.repeat_records.new.office.office sent c.make_relationships.new.answers.items
     first copy second lei rr c.in_ok-repeats.repeats _ (subst M c.new-answers.ensures.items c.in_ok-first.ensures.makes) c.in_ok-second.ensures.makes
-    c.in_ok-repeats.ensures.repeats refl refl (two-made first second c.made.result c.made-2.result c.made.ensures.value c.made-2.ensures.value)
+    c.in_ok-repeats.ensures.repeats refl refl
+    (two-made first second c.publication_count.result c.publication_count-2.result c.publication_count.ensures.value c.publication_count-2.ensures.value)
     (c.in_ok-copy_of.ensures ∙ c.text_of-3.ensures) (c.rows_in.ensures ∙ ap row_count_in c.text_of-4.ensures)
     (c.rows_in-2.ensures ∙ ap row_count_in c.text_of-5.ensures) (subst D c.text_of-2.ensures (subst C c.text_of.ensures c.in_ok-applied.ensures))

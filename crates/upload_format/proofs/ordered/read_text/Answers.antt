@@ -13,4 +13,4 @@ returns-in-Some-2 c =
     let found = c.in-Some.ensures is.0 begins in
     let are = subst (λ read. IfSome read (λ lists. (ms : Members) → InMembers c.in-Some.members ms → AreLists ms lists.records.items lists.relations.items lists.exceptions.items))
     c.in-Some-2.is c.in_ok-lists.ensures found.0 found.2 in
-    items-of_lists text found.0 _ _ _ c.utf8.text (is.1 ∙ ap Some found.1) are ∙ sym (ap Some c.in_ok-joined-in-Some-2.ensures)
+    items-of_lists text found.0 _ _ _ c.utf8.text (is.1 ∙ ap Some found.1) are ∙ sym (ap Some c.in_ok-all_items-in-Some-2.ensures)

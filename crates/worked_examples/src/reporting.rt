@@ -1,8 +1,8 @@
-//! What is told of sessions.
+//! Reports on sessions, and on the help of the commands.
 ghost use Rattle.std.specs.Prelude.{◌≤◌};
 
 use crate::stores::Store;
-use crate::trial::came_in_memory;
+use crate::trial::run_in_memory;
 use example_sessions::{Came, Session, Trial, is_wanted};
 use lei_outside::KeepFault;
 use program_words::help_of;
@@ -61,7 +61,7 @@ fn passes<R: Print + AllocGlobal + Threads + Sync>(
     let trial = Trial { file, title, size };
     let mut stores: Vec<Store> = Vec::new(alloc);
     for run in session.runs() {
-        let came = or_io_error(came_in_memory(rt, alloc, run, size, &mut stores))?;
+        let came = or_io_error(run_in_memory(rt, alloc, run, size, &mut stores))?;
         if !is_wanted(rt, alloc, trial, run, &came)? {
             return Ok(false);
         }

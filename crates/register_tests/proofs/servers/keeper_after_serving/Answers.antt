@@ -1,7 +1,7 @@
 use Rattle.std.proofs.Common.{map, string_bytes, ◌∙◌}
 use Rattle.program_words.specs.Words.{run_meaning}
 use Rattle.leireg_serve.proofs.Meanings.{same_workers}
-use Rattle.register_tests.proofs.servers.served.Goals as goal
+use Rattle.register_tests.proofs.servers.keeper_after_serving.Goals as goal
 
 pub serve-status-requires-clause-desks : goal.serve-status-requires-clause-desks
 serve-status-requires-clause-desks g c κs within what means =

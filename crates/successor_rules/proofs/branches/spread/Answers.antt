@@ -1,9 +1,0 @@
-use Rattle.std.proofs.Common.{ap, ◌∙◌}
-use Rattle.successor_rules.specs.Successors as OverViews
-use Rattle.successor_rules.proofs.ViewLemmas.{spread-over_table}
-use Rattle.successor_rules.proofs.branches.spread.Goals as goal
-
-pub returns-clause-over_tables : goal.returns-clause-over_tables
-returns-clause-over_tables g c = λ table same.
-    c.spread_from.ensures ∙ (ap (λ cells. OverViews.spread cells c.args.own.now c.args.from.now) same
-    ∙ spread-over_table table c.args.own.now c.args.from.now)
