@@ -2,6 +2,7 @@ pub mod Folding
 pub mod Cutting
 pub mod Paging
 pub mod KeyLemmas
+pub mod HeadLemmas
 pub mod RisingLemmas
 pub mod Walked
 pub mod WalkLemmas

@@ -1,17 +1,15 @@
 -- What is noted under the words of names.
 use Rattle.std.proofs.Common.{◌≡◌, ℕ, ◌+◌, ◌<◌, T, Bool, true, false, ◌&&◌, ◌||◌, cond, Option, Some, List, [], ◌∷◌, ◌++◌, zero, suc, get_or, take, map, length, refl, sym, ap, subst, ◌∙◌, arith}
 use Rattle.std.specs.Prelude.{flat_map}
-use Rattle.std.specs.BTreeMap.{BTreeMap, UpdatesBy, get_by_text}
+use Rattle.std.specs.BTreeMap.{BTreeMap, Updates}
 use Rattle.std.specs.BTreeSet.{BTreeSet}
-use Rattle.std.specs.Prelude.{String}
-use Rattle.std.specs.String.{string_bytes, string_cmp}
-use Rattle.std.specs.Cmp.Lexicographic.{bytes_decides, slice_cmp}
+use Rattle.std.specs.Cmp.Lexicographic.{bytes_decides}
 use Rattle.std.specs.Cmp.{tied_itself}
 use Rattle.std.specs.FinMap.Entries.{below_all, by_order, find, is_sorted}
 use Rattle.std.specs.Option.{option_map}
 use Rattle.std.specs.List.{All, AllByRecursion, list_all}
 use Rattle.std.specs.List.Sorted.{IsStrictlySortedBy}
-use Rattle.std.specs.Ordering.{eq_by_cmp, is_eq, is_lt, nat_cmp}
+use Rattle.std.specs.Ordering.{eq_by_cmp, is_eq, is_lt}
 use Rattle.std.specs.Str.{bytes_eq}
 use Rattle.std.specs.declared.cmp.Ordering.{Ordering}
 use Rattle.std.proofs.lemmas.Bool.{false≢true}
@@ -19,7 +17,7 @@ use Rattle.std.proofs.lemmas.Cmp.{nat_list_cmp_total}
 use Rattle.std.proofs.lemmas.List.{map-append, take_more}
 use Rattle.std.proofs.lemmas.List.Elements.{All-head, All-tail}
 use Rattle.std.proofs.lemmas.List.Folds.{list_all-append}
-use Rattle.std.proofs.lemmas.Map.Text.{btree_map_updates_text, is_eq-slice_cmp}
+use Rattle.std.proofs.lemmas.Map.Text.{is_eq-slice_cmp}
 use Rattle.lei_code.specs.Texts.{Text}
 use Rattle.lei_records.specs.Tables.{key_cmp}
 use Rattle.register_words.specs.declared.sheets.Sheet.{Sheet}
@@ -33,7 +31,7 @@ use Rattle.name_search.specs.declared.postings.Postings.{Postings}
 use Rattle.name_search.specs.NameTables.{Name, key_and_name}
 use Rattle.name_search.specs.Puts.{put_name, put_names}
 use Rattle.name_search.specs.Searching.{has_each, is_match, is_word_among}
-use Rattle.name_search.specs.Keys.{AreKeysOf, is_one_of_keys, text_cmp}
+use Rattle.name_search.specs.Keys.{AreKeysOf, get_by_word, is_one_of_keys, text_cmp}
 use Rattle.name_search.specs.Walks.{Covers, FirstStays, LaterStays, NamesAreIndexed, NotesStay, StaysFor, TakesFrom, has_word, is_noted, keys_in, keys_under, rising_in}
 use Rattle.name_search.specs.Words.{words}
 use Rattle.name_search.proofs.KeyLemmas.{key_is, then_nothing}
@@ -234,15 +232,20 @@ indexed-after names out puts changes changes' old new is stays noted puts_are sa
 
 -- ---- one word of an index
 
-module _ {Y V : Type 0} (read : Option V → List Text) (old new : BTreeMap (String Y) V) (word : Text) (value : Option V) where
-  pub stays_updated : UpdatesBy string_cmp (λ k. slice_cmp nat_cmp word (string_bytes k)) old new value
-      → AreKeysOf (read (get_by_text old word)) (read value)
-      → (other : Text) → AreKeysOf (read (get_by_text old other)) (read (get_by_text new other))
+-- what a map has under the words after one word got another value
+pub word-updated : {V : Type 0} (old new : BTreeMap Text V) (word : Text) (value : Option V) → Updates text_cmp old new word value
+    → (other : Text) → get_by_word new other ≡ cond (bytes_eq word other) value (get_by_word old other)
+word-updated old new word value updates other = updates.0 other ∙ ap (λ b. cond b value (get_by_word old other)) (is_eq-slice_cmp word other)
+
+module _ {V : Type 0} (read : Option V → List Text) (old new : BTreeMap Text V) (word : Text) (value : Option V) where
+  pub stays_updated : Updates text_cmp old new word value
+      → AreKeysOf (read (get_by_word old word)) (read value)
+      → (other : Text) → AreKeysOf (read (get_by_word old other)) (read (get_by_word new other))
   stays_updated updates stay other key had =
-      ap (λ o. is_one_of_keys key (read o)) (btree_map_updates_text word old new value updates other) ∙ by (bytes_eq word other) refl
+      ap (λ o. is_one_of_keys key (read o)) (word-updated old new word value updates other) ∙ by (bytes_eq word other) refl
     where
-      by : (b : Bool) → bytes_eq word other ≡ b → is_one_of_keys key (read (cond b value (get_by_text old other))) ≡ true
-      by true same = stay key (ap (λ w. is_one_of_keys key (read (get_by_text old w))) ((bytes_decides word other).0 same) ∙ had)
+      by : (b : Bool) → bytes_eq word other ≡ b → is_one_of_keys key (read (cond b value (get_by_word old other))) ≡ true
+      by true same = stay key (ap (λ w. is_one_of_keys key (read (get_by_word old w))) ((bytes_decides word other).0 same) ∙ had)
       by false differs = had
 
 -- there is no key under a word that has none
@@ -252,18 +255,18 @@ no_key key keys none had = absurd (false≢true (sym (ap (is_one_of_keys key) no
 -- what stays in both maps stays noted
 pub stays_both : (old new : Postings) → FirstStays old.first new.first → LaterStays old.later new.later → NotesStay old new
 stays_both old new first later word key =
-    in_both key (rising_in (get_by_text old.first word)) (keys_in (get_by_text old.later word))
-    (rising_in (get_by_text new.first word)) (keys_in (get_by_text new.later word)) (first word key) (later word key)
+    in_both key (rising_in (get_by_word old.first word)) (keys_in (get_by_word old.later word))
+    (rising_in (get_by_word new.first word)) (keys_in (get_by_word new.later word)) (first word key) (later word key)
 
-pub noted_first : (postings : Postings) (word key : Text) → is_one_of_keys key (rising_in (get_by_text postings.first word)) ≡ true
+pub noted_first : (postings : Postings) (word key : Text) → is_one_of_keys key (rising_in (get_by_word postings.first word)) ≡ true
     → is_one_of_keys key (keys_under postings word) ≡ true
 noted_first postings word key =
-    in_first key (rising_in (get_by_text postings.first word)) (keys_in (get_by_text postings.later word))
+    in_first key (rising_in (get_by_word postings.first word)) (keys_in (get_by_word postings.later word))
 
-pub noted_later : (postings : Postings) (word key : Text) → is_one_of_keys key (keys_in (get_by_text postings.later word)) ≡ true
+pub noted_later : (postings : Postings) (word key : Text) → is_one_of_keys key (keys_in (get_by_word postings.later word)) ≡ true
     → is_one_of_keys key (keys_under postings word) ≡ true
 noted_later postings word key =
-    in_second key (rising_in (get_by_text postings.first word)) (keys_in (get_by_text postings.later word))
+    in_second key (rising_in (get_by_word postings.first word)) (keys_in (get_by_word postings.later word))
 
 -- ---- one more word of a row
 
@@ -351,9 +354,9 @@ forgets_one first old new rows word key row sorted is lacks takes same before al
   where
     takes_one : TakesOne word key old new
     takes_one other k apart =
-        in_both k (rising_in (get_by_text old.first other)) (keys_in (get_by_text old.later other))
-        (rising_in (get_by_text new.first other)) (keys_in (get_by_text new.later other))
-        (λ had. ap (λ m. is_one_of_keys k (rising_in (get_by_text m other))) same ∙ had) (takes other k apart)
+        in_both k (rising_in (get_by_word old.first other)) (keys_in (get_by_word old.later other))
+        (rising_in (get_by_word new.first other)) (keys_in (get_by_word new.later other))
+        (λ had. ap (λ m. is_one_of_keys k (rising_in (get_by_word m other))) same ∙ had) (takes other k apart)
 
 pub indexed-forgot : (names : List Name) (old new : Postings) → NamesAreIndexed names old → StaysFor names old new → NamesAreIndexed names new
 indexed-forgot names old new is stays = record {
@@ -364,18 +367,18 @@ indexed-forgot names old new is stays = record {
 }
 
 -- a key is removed from under a word of a map
-module _ {Y : Type 0} (old new : BTreeMap (String Y) (BTreeSet Text)) (word key : Text) (keys before : BTreeSet Text) where
-  pub takes_updated : UpdatesBy string_cmp (λ k. slice_cmp nat_cmp word (string_bytes k)) old new (Some keys)
-      → get_by_text old word ≡ Some before
+module _ (old new : BTreeMap Text (BTreeSet Text)) (word key : Text) (keys before : BTreeSet Text) where
+  pub takes_updated : Updates text_cmp old new word (Some keys)
+      → get_by_word old word ≡ Some before
       → ((k : Text) → is_one_of_keys k keys.keys ≡ cond (is_eq (text_cmp key k)) false (is_one_of_keys k before.keys))
-      → (other k : Text) → (bytes_eq word other && bytes_eq key k) ≡ false → is_one_of_keys k (keys_in (get_by_text old other)) ≡ true
-      → is_one_of_keys k (keys_in (get_by_text new other)) ≡ true
+      → (other k : Text) → (bytes_eq word other && bytes_eq key k) ≡ false → is_one_of_keys k (keys_in (get_by_word old other)) ≡ true
+      → is_one_of_keys k (keys_in (get_by_word new other)) ≡ true
   takes_updated updates was removes other k apart had =
-      ap (λ o. is_one_of_keys k (keys_in o)) (btree_map_updates_text word old new (Some keys) updates other) ∙ by (bytes_eq word other) refl
+      ap (λ o. is_one_of_keys k (keys_in o)) (word-updated old new word (Some keys) updates other) ∙ by (bytes_eq word other) refl
     where
-      by : (b : Bool) → bytes_eq word other ≡ b → is_one_of_keys k (keys_in (cond b (Some keys) (get_by_text old other))) ≡ true
+      by : (b : Bool) → bytes_eq word other ≡ b → is_one_of_keys k (keys_in (cond b (Some keys) (get_by_word old other))) ≡ true
       by true same =
-          let there : get_by_text old other ≡ Some before = ap (get_by_text old) (sym ((bytes_decides word other).0 same)) ∙ was in
+          let there : get_by_word old other ≡ Some before = ap (get_by_word old) (sym ((bytes_decides word other).0 same)) ∙ was in
           let differs : bytes_eq key k ≡ false = sym (ap (λ b. b && bytes_eq key k) same) ∙ apart in
           removes k ∙ ap (λ b. cond b false (is_one_of_keys k before.keys)) (is_eq-slice_cmp key k ∙ differs)
           ∙ sym (ap (λ o. is_one_of_keys k (keys_in o)) there) ∙ had

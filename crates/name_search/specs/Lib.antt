@@ -1,5 +1,6 @@
 pub mod Words
 pub mod Keys
+pub mod Heads
 pub mod NameTables
 pub mod Searching
 pub mod Gathering

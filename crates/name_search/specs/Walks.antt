@@ -1,6 +1,6 @@
 -- For each word, the keys of the rows whose names have it, and a walk over the keys of one word instead of all names.
-use Rattle.std.specs.Prelude.{◌≡◌, ◌++◌, ◌&&◌, Bool, true, false, Option, None, Some, List, String, [], ◌∷◌, flat_map, map, if◌then◌else◌}
-use Rattle.std.specs.BTreeMap.{BTreeMap, get_by_text}
+use Rattle.std.specs.Prelude.{◌≡◌, ◌++◌, ◌&&◌, Bool, true, false, Option, None, Some, List, [], ◌∷◌, flat_map, map, if◌then◌else◌}
+use Rattle.std.specs.BTreeMap.{BTreeMap}
 use Rattle.std.specs.BTreeSet.{BTreeSet}
 use Rattle.std.specs.FinMap.Entries.{find}
 use Rattle.std.specs.List.{list_all}
@@ -10,7 +10,7 @@ use Rattle.register_words.specs.declared.sheets.Sheet.{Sheet}
 use Rattle.copy_csv.specs.Rows.{AreRows}
 use Rattle.copy_csv.specs.Sheets.{SheetRow}
 use Rattle.name_search.specs.declared.postings.Postings.{Postings}
-use Rattle.name_search.specs.Keys.{AreKeysOf, is_one_of_keys, text_cmp}
+use Rattle.name_search.specs.Keys.{AreKeysOf, get_by_word, is_one_of_keys, text_cmp}
 use Rattle.name_search.specs.NameTables.{Name, key_and_name}
 use Rattle.name_search.specs.Searching.{is_word_among}
 use Rattle.name_search.specs.Words.{words}
@@ -29,16 +29,16 @@ keys_in (Some keys) = keys.keys
 
 -- The keys that are noted under a word: those of its list, and those of its set.
 abbrev pub keys_under : Postings → Text → List Text
-keys_under postings word = rising_in (get_by_text postings.first word) ++ keys_in (get_by_text postings.later word)
+keys_under postings word = rising_in (get_by_word postings.first word) ++ keys_in (get_by_word postings.later word)
 
 -- The keys that a map of lists has under a word stay there.
-abbrev pub FirstStays : {Y : Type 0} → BTreeMap (String Y) (List Text) → BTreeMap (String Y) (List Text) → Type 0
-FirstStays old new = (word : Text) → AreKeysOf (rising_in (get_by_text old word)) (rising_in (get_by_text new word))
+abbrev pub FirstStays : BTreeMap Text (List Text) → BTreeMap Text (List Text) → Type 0
+FirstStays old new = (word : Text) → AreKeysOf (rising_in (get_by_word old word)) (rising_in (get_by_word new word))
 
 -- The keys that a map of sets has under a word stay there.
-abbrev pub LaterStays : {Y : Type 0} → BTreeMap (String Y) (BTreeSet Text) → BTreeMap (String Y) (BTreeSet Text)
+abbrev pub LaterStays : BTreeMap Text (BTreeSet Text) → BTreeMap Text (BTreeSet Text)
     → Type 0
-LaterStays old new = (word : Text) → AreKeysOf (keys_in (get_by_text old word)) (keys_in (get_by_text new word))
+LaterStays old new = (word : Text) → AreKeysOf (keys_in (get_by_word old word)) (keys_in (get_by_word new word))
 
 -- The key of a name is noted under each of its words.
 abbrev pub is_noted : Postings → Name → Bool
@@ -58,11 +58,11 @@ abbrev pub StaysFor : List Name → Postings → Postings → Type 0
 StaysFor names old new = list_all (is_noted old) names ≡ true → list_all (is_noted new) names ≡ true
 
 -- No key was removed from any set, except possibly this key from this word's set.
-abbrev pub TakesFrom : {Y : Type 0} → Text → Text → BTreeMap (String Y) (BTreeSet Text)
-    → BTreeMap (String Y) (BTreeSet Text) → Type 0
+abbrev pub TakesFrom : Text → Text → BTreeMap Text (BTreeSet Text)
+    → BTreeMap Text (BTreeSet Text) → Type 0
 TakesFrom word key old new =
     (other k : Text) → (bytes_eq word other && bytes_eq key k) ≡ false
-    → is_one_of_keys k (keys_in (get_by_text old other)) ≡ true → is_one_of_keys k (keys_in (get_by_text new other)) ≡ true
+    → is_one_of_keys k (keys_in (get_by_word old other)) ≡ true → is_one_of_keys k (keys_in (get_by_word new other)) ≡ true
 
 -- The names are those of a copy's rows, and each is noted.
 pub record NamesAreIndexed (names : List Name) (postings : Postings) : Type 0 where

@@ -12,6 +12,7 @@ use crate::key::Key;
 use crate::named_row::NamedRow;
 use crate::places::row_at;
 use crate::postings::{Keys, note_key};
+use crate::word::Word;
 use lei_outside::{NoMemory, Text};
 use std::alloc::Global;
 use std::collections::BTreeSet;
@@ -48,7 +49,7 @@ impl Gathered {
 pub fn gather_all(
     alloc: Global,
     start: u64,
-    wanted: &[Text],
+    wanted: &[Word],
     rows: &[NamedRow],
 ) -> Result<Gathered, NoMemory>
     ensures { IfOk result (λ gathered. GathersPage start (filter (spec.is_match wanted.now) rows.now)
@@ -68,7 +69,7 @@ pub fn gather_all(
 pub fn gather_under(
     alloc: Global,
     start: u64,
-    wanted: &[Text],
+    wanted: &[Word],
     rows: &[NamedRow],
     first: &[Key],
     later: Option<&Keys>,
@@ -90,7 +91,7 @@ pub fn gather_under(
 fn gather_both(
     alloc: Global,
     start: u64,
-    wanted: &[Text],
+    wanted: &[Word],
     rows: &[NamedRow],
     first: &[Key],
     later: &Keys,
@@ -132,7 +133,7 @@ fn put_set(keys: &mut Keys, set: &Keys) -> Result<(), NoMemory>
 fn gather_rising(
     alloc: Global,
     start: u64,
-    wanted: &[Text],
+    wanted: &[Word],
     rows: &[NamedRow],
     keys: &[Key],
 ) -> Result<Gathered, NoMemory>
@@ -166,7 +167,7 @@ fn nothing(alloc: Global) -> Gathered
 fn gather_each(
     alloc: Global,
     start: u64,
-    wanted: &[Text],
+    wanted: &[Word],
     rows: &[NamedRow],
     keys: &Keys,
 ) -> Result<Gathered, NoMemory>
@@ -187,7 +188,7 @@ fn gather_each(
 }
 
 // The row of a key, if there is one and it matches.
-fn match_at<'a>(wanted: &[Text], rows: &'a [NamedRow], key: &str) -> Option<&'a NamedRow>
+fn match_at<'a>(wanted: &[Word], rows: &'a [NamedRow], key: &str) -> Option<&'a NamedRow>
     requires { is_sorted text_cmp rows.now ≡ true }
     ensures { option_to_list (option_map (λ row. row.now) result)
         ≡ hits (spec.is_match wanted.now) key.now (find text_cmp key.now rows.now) }

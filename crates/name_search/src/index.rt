@@ -17,9 +17,10 @@ use crate::merging::{merge, named_puts, number_of};
 use crate::named_row::NamedRow;
 use crate::opening::noted_rows;
 use crate::postings::Postings;
+use crate::word::{Word, words_from};
 use crate::words::words_of;
 use copy_csv::{CopyRead, DeltaRead};
-use lei_outside::{List, NoMemory, Text};
+use lei_outside::{List, NoMemory};
 use std::alloc::Global;
 use std::marker::Model;
 use std::mem;
@@ -137,7 +138,8 @@ impl Index {
     pub fn find(&self, page: u32, text: &str) -> Result<Found, FindFault>
         requires first { 1 ≤ page }
         requires last { page ≤ 1_000_000 }
-        ensures matches { IfOk result (λ found. found.matches ≡ length (spec.found_names self.now.names text.now)) }
+        ensures matches { IfOk result
+            (λ found. found.matches ≡ length (spec.found_names self.now.names text.now)) }
         ensures names { IfOk result
             (λ found. found.names ≡ spec.page_of page (spec.found_names self.now.names text.now)) }
         ensures some_word { OnOk result (1 ≤ length (words text.now)) }
@@ -145,13 +147,14 @@ impl Index {
         ensures no_word { IsErrOf result Finding.NoWord → words text.now ≡ [] }
         ensures too_many { IsErrOf result Finding.TooManyWords → 9 ≤ length (words text.now) }
     {
-        let wanted = words_of(self.alloc, text)?;
-        if wanted.is_empty() {
+        let texts = words_of(self.alloc, text)?;
+        if texts.is_empty() {
             return Err(FindFault::NoWord);
         }
-        if wanted.len() > 8 {
+        if texts.len() > 8 {
             return Err(FindFault::TooManyWords);
         }
+        let wanted = words_from(self.alloc, texts)?;
         let start = 50 * (u64::from(page) - 1);
         let gathered = self.gather(start, wanted.as_slice())?;
         Ok(Found {
@@ -162,13 +165,13 @@ impl Index {
 
     // The rows that have each of these words, for a page that starts after the first `start` of them. Only those under
     // the rarest word are looked at.
-    fn gather(&self, start: u64, wanted: &[Text]) -> Result<Gathered, NoMemory>
+    fn gather(&self, start: u64, wanted: &[Word]) -> Result<Gathered, NoMemory>
         requires { 1 ≤ length wanted.now }
         ensures { IfOk result (λ gathered. GathersPage start
             (filter (spec.is_match wanted.now) self.now.names)
             gathered.matches gathered.names.items) }
     {
-        let word = wanted[self.postings.rarest(wanted)].as_str();
+        let word = &wanted[self.postings.rarest(wanted)];
         let rows = self.rows.as_slice();
         if self.postings.count(word) >= rows.len() / 4 {
             return gather_all(self.alloc, start, wanted, rows);

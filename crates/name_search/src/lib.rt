@@ -12,6 +12,7 @@ mod opening;
 mod places;
 mod postings;
 mod rising;
+mod word;
 mod words;
 
 pub use faults::{FindFault, TakeFault};

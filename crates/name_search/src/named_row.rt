@@ -8,6 +8,7 @@ ghost use Rattle.name_search.specs.Searching as spec;
 ghost use Rattle.name_search.specs.Words.{words};
 
 use crate::key::Key;
+use crate::word::{Word, words_from};
 use crate::words::folded;
 use copy_csv::{Row, Sheet};
 use lei_outside::{List, NoMemory, Text};
@@ -21,7 +22,7 @@ use worker_pool::Steps;
 pub struct NamedRow {
     key: Key,
     name: Text,
-    words: List<Text>,
+    words: List<Word>,
 }
 
 impl Model for NamedRow {
@@ -43,7 +44,7 @@ impl NamedRow {
         ensures value { IfOk result (λ made. made ≡ key_and_name row.now) }
         ensures steps { steps.new ≡ steps.old + 1 }
     {
-        let words = folded(alloc, text_of(row, 2), steps)?;
+        let words = words_from(alloc, folded(alloc, text_of(row, 2), steps)?)?;
         let key = Key::copy_of(alloc, text_of(row, 1))?;
         let name = Text::copy_of(alloc, text_of(row, 2))?;
         Ok(NamedRow { key, name, words })
@@ -57,7 +58,7 @@ impl NamedRow {
     }
 
     /// The words of the name, in order.
-    pub fn words(&self) -> &[Text]
+    pub fn words(&self) -> &[Word]
         ensures { result.now ≡ words self.now.1 }
     {
         self.words.as_slice()
@@ -71,7 +72,7 @@ impl NamedRow {
     }
 
     /// Whether the name has each of these words.
-    pub fn is_match(&self, wanted: &[Text]) -> bool
+    pub fn is_match(&self, wanted: &[Word]) -> bool
         ensures { result ≡ spec.is_match wanted.now self.now }
     {
         has_each(wanted, self.words.as_slice())
@@ -101,7 +102,7 @@ pub fn text_of(row: &Row, place: usize) -> &str
 }
 
 // Whether each of the wanted words is among these.
-fn has_each(wanted: &[Text], words: &[Text]) -> bool
+fn has_each(wanted: &[Word], words: &[Word]) -> bool
     ensures { result ≡ spec.has_each wanted.now words.now }
 {
     for word in wanted {
@@ -113,7 +114,7 @@ fn has_each(wanted: &[Text], words: &[Text]) -> bool
 }
 
 // Whether a word is among these.
-fn is_among(words: &[Text], word: &str) -> bool
+fn is_among(words: &[Word], word: &str) -> bool
     ensures { result ≡ spec.is_word_among words.now word.now }
 {
     for other in words {

@@ -1,19 +1,19 @@
 //! For each word, the keys of the rows whose names have it.
 ghost use Rattle.std.specs.Prelude.{◌≡◌, ◌≤◌, ◌<◌, [], length, true, IfOk, option_map, OnOk};
-ghost use Rattle.std.specs.BTreeMap.{get_by_text};
 ghost use Rattle.std.specs.List.{list_all};
 ghost use Rattle.std.specs.List.Sorted.{IsStrictlySortedBy};
 ghost use Rattle.lei_code.specs.Texts.{Text as Bytes};
 ghost use Rattle.std.specs.FinMap.Entries.{is_sorted};
 ghost use Rattle.name_search.specs.Walks as spec;
-ghost use Rattle.name_search.specs.Keys.{is_one_of_keys, text_cmp};
+ghost use Rattle.name_search.specs.Keys.{get_by_word, is_one_of_keys, text_cmp};
 ghost use Rattle.name_search.specs.Walks.{FirstStays, LaterStays, NotesStay, StaysFor, TakesFrom, is_noted, keys_in, keys_under, rising_in};
 
 use crate::key::Key;
 use crate::named_row::NamedRow;
 use crate::places::row_near;
 use crate::rising::RisingKeys;
-use lei_outside::{NoMemory, Text};
+use crate::word::Word;
+use lei_outside::NoMemory;
 use std::alloc::Global;
 use std::collections::{BTreeMap, BTreeSet};
 
@@ -26,8 +26,8 @@ pub type Keys = BTreeSet<Key>;
 #[derive(Drop)]
 pub struct Postings {
     pub alloc: Global,
-    pub first: BTreeMap<String, RisingKeys>,
-    pub later: BTreeMap<String, Keys>,
+    pub first: BTreeMap<Word, RisingKeys>,
+    pub later: BTreeMap<Word, Keys>,
 }
 
 impl Postings {
@@ -43,8 +43,8 @@ impl Postings {
     }
 
     /// The list of a word's keys, without those in its set.
-    pub fn first_keys(&self, word: &str) -> &[Key]
-        ensures value { result.now ≡ rising_in (get_by_text self.now.first word.now) }
+    pub fn first_keys(&self, word: &Word) -> &[Key]
+        ensures value { result.now ≡ rising_in (get_by_word self.now.first word.now) }
         ensures rising { IsStrictlySortedBy text_cmp result.now }
     {
         match self.first.get(word) {
@@ -54,22 +54,22 @@ impl Postings {
     }
 
     /// The set of a word's keys, if there is one.
-    pub fn later_keys(&self, word: &str) -> Option<&Keys>
+    pub fn later_keys(&self, word: &Word) -> Option<&Keys>
         ensures { keys_in (option_map (λ keys. keys.now) result)
-            ≡ keys_in (get_by_text self.now.later word.now) }
+            ≡ keys_in (get_by_word self.now.later word.now) }
     {
         self.later.get(word)
     }
 
     /// The index of a word under which there are at most as many keys as under each of the others.
-    pub fn rarest(&self, wanted: &[Text]) -> usize
+    pub fn rarest(&self, wanted: &[Word]) -> usize
         requires { 1 ≤ length wanted.now }
         ensures { result < length wanted.now }
     {
         let mut rarest = 0;
-        let mut least = self.count(wanted[0].as_str());
+        let mut least = self.count(&wanted[0]);
         for index in 1..wanted.len() {
-            let count = self.count(wanted[index].as_str());
+            let count = self.count(&wanted[index]);
             if count < least {
                 least = count;
                 rarest = index;
@@ -79,7 +79,7 @@ impl Postings {
     }
 
     /// The number of keys under a word.
-    pub fn count(&self, word: &str) -> usize {
+    pub fn count(&self, word: &Word) -> usize {
         let first = self.first_keys(word).len();
         match self.later_keys(word) {
             Some(later) => first.saturating_add(later.len()),
@@ -93,13 +93,13 @@ impl Postings {
         ensures noted { OnOk result (is_noted self.new row.now ≡ true) }
     {
         for word in row.words() {
-            self.note_first(word.as_str(), row.key())?;
+            self.note_first(word, row.key())?;
         }
         Ok(())
     }
 
     // Notes a key under a word: it goes to the word's list, or to its set if it comes before another one.
-    fn note_first(&mut self, word: &str, key: &Key) -> Result<(), NoMemory>
+    fn note_first(&mut self, word: &Word, key: &Key) -> Result<(), NoMemory>
         ensures stays { NotesStay self.old self.new }
         ensures noted { OnOk result (is_one_of_keys key.now (keys_under self.new word.now) ≡ true) }
     {
@@ -126,13 +126,13 @@ impl Postings {
         ensures noted { OnOk result (is_noted self.new row.now ≡ true) }
     {
         for word in row.words() {
-            self.note_next(word.as_str(), row.key())?;
+            self.note_next(word, row.key())?;
         }
         Ok(())
     }
 
     // Notes a key under a word: it goes to the word's set.
-    fn note_next(&mut self, word: &str, key: &Key) -> Result<(), NoMemory>
+    fn note_next(&mut self, word: &Word, key: &Key) -> Result<(), NoMemory>
         ensures stays { NotesStay self.old self.new }
         ensures noted { OnOk result (is_one_of_keys key.now (keys_under self.new word.now) ≡ true) }
     {
@@ -157,9 +157,8 @@ impl Postings {
     {
         let key = gone.key();
         let row = row_near(rows, key.as_str(), place);
-        for each in gone.words() {
-            let word = each.as_str();
-            if has_word(row, word) {
+        for word in gone.words() {
+            if has_word(row, word.as_str()) {
                 continue;
             }
             forget_word(&mut self.later, word, key);
@@ -170,13 +169,13 @@ impl Postings {
 // Appends a key to a word's list, if it comes after the last one. `true` says that the list has the key then.
 fn push_first(
     alloc: Global,
-    first: &mut BTreeMap<String, RisingKeys>,
-    word: &str,
+    first: &mut BTreeMap<Word, RisingKeys>,
+    word: &Word,
     key: &Key,
 ) -> Result<bool, NoMemory>
     ensures stays { FirstStays first.old first.new }
     ensures noted { IfOk result
-        (λ is. is ≡ true → is_one_of_keys key.now (rising_in (get_by_text first.new word.now)) ≡ true) }
+        (λ is. is ≡ true → is_one_of_keys key.now (rising_in (get_by_word first.new word.now)) ≡ true) }
 {
     match first.get_mut(word) {
         Some(keys) => keys.push(key),
@@ -187,18 +186,18 @@ fn push_first(
 // The same for the first key of a word.
 fn push_alone(
     alloc: Global,
-    first: &mut BTreeMap<String, RisingKeys>,
-    word: &str,
+    first: &mut BTreeMap<Word, RisingKeys>,
+    word: &Word,
     key: &Key,
 ) -> Result<bool, NoMemory>
-    requires { get_by_text first.old word.now ≡ None }
+    requires { get_by_word first.old word.now ≡ None }
     ensures stays { FirstStays first.old first.new }
     ensures noted { IfOk result
-        (λ is. is ≡ true → is_one_of_keys key.now (rising_in (get_by_text first.new word.now)) ≡ true) }
+        (λ is. is ≡ true → is_one_of_keys key.now (rising_in (get_by_word first.new word.now)) ≡ true) }
 {
     let mut keys = RisingKeys::new(alloc);
     let is_there = keys.push(key)?;
-    let word = String::from_str(alloc, word)?;
+    let word = word.copy(alloc)?;
     first.insert(word, keys)?;
     Ok(is_there)
 }
@@ -206,12 +205,12 @@ fn push_alone(
 // Adds a key to a word's set.
 fn note_later(
     alloc: Global,
-    later: &mut BTreeMap<String, Keys>,
-    word: &str,
+    later: &mut BTreeMap<Word, Keys>,
+    word: &Word,
     key: &Key,
 ) -> Result<(), NoMemory>
     ensures stays { LaterStays later.old later.new }
-    ensures noted { OnOk result (is_one_of_keys key.now (keys_in (get_by_text later.new word.now)) ≡ true) }
+    ensures noted { OnOk result (is_one_of_keys key.now (keys_in (get_by_word later.new word.now)) ≡ true) }
 {
     match later.get_mut(word) {
         Some(keys) => note_key(keys, key),
@@ -222,23 +221,23 @@ fn note_later(
 // The same for the first key of a word.
 fn note_alone(
     alloc: Global,
-    later: &mut BTreeMap<String, Keys>,
-    word: &str,
+    later: &mut BTreeMap<Word, Keys>,
+    word: &Word,
     key: &Key,
 ) -> Result<(), NoMemory>
-    requires { get_by_text later.old word.now ≡ None }
+    requires { get_by_word later.old word.now ≡ None }
     ensures stays { LaterStays later.old later.new }
-    ensures noted { OnOk result (is_one_of_keys key.now (keys_in (get_by_text later.new word.now)) ≡ true) }
+    ensures noted { OnOk result (is_one_of_keys key.now (keys_in (get_by_word later.new word.now)) ≡ true) }
 {
     let mut keys = BTreeSet::new(alloc);
     note_key(&mut keys, key)?;
-    let word = String::from_str(alloc, word)?;
+    let word = word.copy(alloc)?;
     later.insert(word, keys)?;
     Ok(())
 }
 
 // Removes a key from a word's set.
-fn forget_word(later: &mut BTreeMap<String, Keys>, word: &str, key: &Key)
+fn forget_word(later: &mut BTreeMap<Word, Keys>, word: &Word, key: &Key)
     ensures { TakesFrom word.now key.now later.old later.new }
 {
     if let Some(keys) = later.get_mut(word) {

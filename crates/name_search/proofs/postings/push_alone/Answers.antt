@@ -1,11 +1,11 @@
-use Rattle.std.proofs.Common.{Some, ap, string_bytes, ◌∙◌}
-use Rattle.std.specs.BTreeMap.{get_by_text}
+use Rattle.std.proofs.Common.{Some, ap, ◌∙◌}
+use Rattle.name_search.specs.Keys.{get_by_word}
 use Rattle.name_search.specs.Walks.{rising_in}
 use Rattle.name_search.proofs.NotedLemmas.{no_key, stays_updated}
 use Rattle.name_search.proofs.postings.push_alone.Goals as goal
 
 pub returns-clause-stays : goal.returns-clause-stays
 returns-clause-stays c =
-    stays_updated rising_in c.args.first.now c.insert.new.self (string_bytes c.in_ok-word.word) (Some c.push.new.self) c.in_ok-insert.ensures.updates
-    (λ k had. no_key k (rising_in (get_by_text c.args.first.now (string_bytes c.in_ok-word.word)))
-    (ap rising_in (ap (get_by_text c.args.first.now) c.in_ok-word.ensures.ok ∙ c.requires)) had)
+    stays_updated rising_in c.args.first.now c.insert.new.self c.in_ok-word.word (Some c.push.new.self) c.in_ok-insert.ensures.updates
+    (λ k had. no_key k (rising_in (get_by_word c.args.first.now c.in_ok-word.word))
+    (ap rising_in (ap (get_by_word c.args.first.now) c.in_ok-word.ensures ∙ c.requires)) had)

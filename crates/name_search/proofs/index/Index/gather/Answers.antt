@@ -1,5 +1,5 @@
-use Rattle.std.proofs.Common.{◌++◌, ap, ◌∙◌}
-use Rattle.std.specs.BTreeMap.{get_by_text}
+use Rattle.std.proofs.Common.{◌++◌, ap, refl, ◌∙◌}
+use Rattle.name_search.specs.Keys.{get_by_word}
 use Rattle.std.specs.Option.{option_map}
 use Rattle.std.specs.FinMap.Entries.{is_sorted}
 use Rattle.name_search.specs.Keys.{text_cmp}
@@ -13,8 +13,8 @@ gather_under-requires-clause-sorted c =
 
 pub gather_under-requires-clause-covers : goal.gather_under-requires-clause-covers
 gather_under-requires-clause-covers c =
-    covers_at c.self.inside.postings c.self.inside.rows.items c.as_slice-rows.result.now c.args.wanted.now c.rarest.result c.index-wanted-rarest.result c.as_str-word.result.now _
+    covers_at c.self.inside.postings c.self.inside.rows.items c.as_slice-rows.result.now c.args.wanted.now c.rarest.result c.index-wanted-rarest.result c.index-wanted-rarest.result _
     c.self.invariant.noted c.rarest.ensures c.index-wanted-rarest.is c.as_slice-rows.ensures.value
     (ap (λ l. l ++ keys_in (option_map (λ keys. keys.now) c.later_keys-later.result)) c.first_keys-first.ensures.value
-    ∙ ap (λ l. rising_in (get_by_text c.self.inside.postings.first c.as_str-word.result.now) ++ l) c.later_keys-later.ensures)
-    c.as_str-word.ensures
+    ∙ ap (λ l. rising_in (get_by_word c.self.inside.postings.first c.index-wanted-rarest.result) ++ l) c.later_keys-later.ensures)
+    refl
