@@ -1,6 +1,6 @@
 #!/usr/bin/env python3
-"""Checks docs/THEOREM.md against the sources: each formula is word for word in the file that is named above it, each
-table has the `ensures` clauses of its function in order and no others, and each file that is named exists.
+"""Checks docs/THEOREM.md against the sources: each formula is word for word in the file that is named above it, the table
+has each `ensures` clause of the functions that it is about once and no others, and each file that is named exists.
 
 usage: docs/theorem.py    ends with status 1, and reports what is stale, if anything is
 """
@@ -11,8 +11,15 @@ import sys
 ROOT = pathlib.Path(__file__).resolve().parent.parent
 PAGE = ROOT / "docs" / "THEOREM.md"
 NAMED = re.compile(r"^-- (crates/\S+)$")
-HEAD = re.compile(r"^### `(?:\w+::)?(?P<function>\w+)` in `(?P<file>[^`]+)`$")
-ROW = re.compile(r"^\| `(\w+)` \|")
+ROW = re.compile(r"^\| `(\w+)` \| (`\w+`(?:, `\w+`)*) \| .* \|$")
+# The functions that the table is about, each with its file.
+FUNCTIONS = {
+    "open": "crates/lei_office/src/office.rt",
+    "answer": "crates/lei_office/src/office.rt",
+    "run": "crates/leireg_run/src/program.rt",
+    "serve": "crates/leireg_serve/src/serving.rt",
+    "serve_connection": "crates/issuer_http/src/connection.rt",
+}
 CLAUSE = re.compile(r"^\s*ensures (\w+) \{")
 
 
@@ -50,18 +57,18 @@ def clauses(file, function):
     return [found[1] for line in lines[start:end] if (found := CLAUSE.match(line))]
 
 
-def stale_tables(lines):
-    head, rows = None, []
-    for line in [*lines, "## end"]:
-        if line.startswith("#"):
-            if head:
-                file = ROOT / head["file"]
-                there = clauses(file, head["function"]) if file.is_file() else None
-                if there != rows:
-                    yield f"{head['function']} in {head['file']} has the clauses {there}, and the page has {rows}"
-            head, rows = HEAD.match(line), []
-        elif head and (found := ROW.match(line)):
-            rows.append(found[1])
+def stale_rows(lines):
+    rows = {function: [] for function in FUNCTIONS}
+    for row in filter(None, map(ROW.match, lines)):
+        for function in re.findall(r"\w+", row[2]):
+            if function not in rows:
+                yield f"the row of {row[1]} is of {function}, which the table isn't about"
+            else:
+                rows[function].append(row[1])
+    for function, file in FUNCTIONS.items():
+        there = clauses(ROOT / file, function) if (ROOT / file).is_file() else None
+        if there is None or sorted(there) != sorted(rows[function]):
+            yield f"{function} in {file} has the clauses {there}, and the page has {rows[function]}"
 
 
 def main():
@@ -71,7 +78,7 @@ def main():
     text = PAGE.read_text()
     lines = text.splitlines()
     stale = [fault for block in formulas(lines) if (fault := stale_formula(block))]
-    stale += stale_tables(lines)
+    stale += stale_rows(lines)
     stale += [f"{name} isn't there" for name in re.findall(r"`(crates/[\w./]+)`", text) if not (ROOT / name).exists()]
     for fault in stale:
         print(f"docs/THEOREM.md: {fault}", file=sys.stderr)
