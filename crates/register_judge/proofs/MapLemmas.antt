@@ -16,7 +16,7 @@ use Rattle.lei_shapes.specs.declared.lists.RelationType.{RelationType}
 use Rattle.lei_shapes.specs.Lists.{relation_type_text}
 use Rattle.lei_records.specs.Relations.{end_in, kind_in, start_in}
 use Rattle.lei_records.specs.Rows.{Row}
-use Rattle.register_judge.specs.Overlays.{Ids, Takers, Records, Relations, id_at, ids_at, is_between, pair_at, relation_at, taker_at, record_at}
+use Rattle.register_judge.specs.Overlays.{Ids, LongTakers, Records, Relations, id_at, ids_at, is_between, long_taker_at, pair_at, relation_at, record_at}
 
 copied : (b : Bool) (row : Bor Row) (old : Option (Bor Row)) → option_copied (cond b (Some row) old) ≡ cond b (Some row.now) (option_copied old)
 copied true row old = refl
@@ -30,7 +30,7 @@ record_at-insert old new lei own row same updates q =
     ∙ copied (bytes_eq q own) row (get (slice_cmp nat_cmp) old q))
 
 -- the ids under an authority, after those of one authority are removed or inserted
-pub ids_at-update : (old new : Takers) (authority : List ℕ) (ids : Option Ids)
+pub ids_at-update : (old new : LongTakers) (authority : List ℕ) (ids : Option Ids)
     → UpdatesBy (λ x y. slice_cmp nat_cmp x.now y.now) (λ k. slice_cmp nat_cmp authority k.now) old new ids
     → (a : List ℕ) → ids_at new a ≡ cond (bytes_eq authority a) ids (ids_at old a)
 ids_at-update old new authority ids updates a = btree_map_updates_str authority old new ids updates a
@@ -44,17 +44,17 @@ pub id_at-empty : (ids : Ids) → IsEmpty ids → (i : List ℕ) → id_at ids i
 id_at-empty ids none i = search (rules, none)
 
 -- the record that took a key, after one was noted under an authority that had ids or none
-pub taker_at-insert : (old new : Takers) (was : Option Ids) (more : Ids) (authority id lei : List ℕ)
+pub long_taker_at-insert : (old new : LongTakers) (was : Option Ids) (more : Ids) (authority id lei : List ℕ)
     → ids_at old authority ≡ was
     → ((i : List ℕ) → id_at more i ≡ cond (bytes_eq id i) (Some lei) (option_and_then (λ ids. id_at ids i) was))
     → ((a : List ℕ) → ids_at new a ≡ cond (bytes_eq authority a) (Some more) (ids_at old a))
-    → (a i : List ℕ) → taker_at new a i ≡ cond (bytes_eq authority a && bytes_eq id i) (Some lei) (taker_at old a i)
-taker_at-insert old new was more authority id lei is with_id with_ids a i =
+    → (a i : List ℕ) → long_taker_at new a i ≡ cond (bytes_eq authority a && bytes_eq id i) (Some lei) (long_taker_at old a i)
+long_taker_at-insert old new was more authority id lei is with_id with_ids a i =
     ap (option_and_then (λ ids. id_at ids i)) (with_ids a)
     ∙ elim (bytes_eq authority a) as (λ b. bytes_eq authority a ≡ b
-    → option_and_then (λ ids. id_at ids i) (cond b (Some more) (ids_at old a)) ≡ cond (b && bytes_eq id i) (Some lei) (taker_at old a i)) [
+    → option_and_then (λ ids. id_at ids i) (cond b (Some more) (ids_at old a)) ≡ cond (b && bytes_eq id i) (Some lei) (long_taker_at old a i)) [
       | true ↦ λ t. with_id i ∙ ap (cond (bytes_eq id i) (Some lei))
-          (ap (option_and_then (λ ids. id_at ids i)) (sym is) ∙ ap (λ x. taker_at old x i) (bytes_same authority a t))
+          (ap (option_and_then (λ ids. id_at ids i)) (sym is) ∙ ap (λ x. long_taker_at old x i) (bytes_same authority a t))
       | false ↦ λ _. refl
     ] refl
 

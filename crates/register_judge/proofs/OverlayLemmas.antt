@@ -15,7 +15,8 @@ use Rattle.authority_rules.specs.Taken.{unless_own}
 use Rattle.authority_rules.proofs.HolderLemmas.{bytes_itself}
 use Rattle.lei_records.specs.Exceptions.{is_same_category}
 use Rattle.relation_rules.specs.Checks.{is_from}
-use Rattle.register_judge.specs.Overlays.{ActiveEnds, ExceptionsPut, Records, Relations, Takers, end_at, end_over, exception_over, exception_put_at, has_record, is_active_row, is_between, put_exception, put_record, put_relation, record_at, record_over, relation_at, relation_over, row_holds, taker_at, unless_replaced, with_active, with_overlay, with_taker}
+use Rattle.register_judge.specs.declared.takers.Takers.{Takers}
+use Rattle.register_judge.specs.Overlays.{ActiveEnds, ExceptionsPut, Records, Relations, end_at, end_over, exception_over, exception_put_at, has_record, is_active_row, is_between, put_exception, put_record, put_relation, record_at, record_over, relation_at, relation_over, row_holds, taker_at, unless_replaced, with_active, with_overlay, with_taker}
 
 -- ---- the key that a record holds
 

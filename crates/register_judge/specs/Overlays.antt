@@ -1,5 +1,5 @@
 -- Cells with accepted items put over them.
-use Rattle.std.specs.Prelude.{Bool, false, not, ◌&&◌, Option, Some, None, if◌then◌else◌, is_some, option_and_then, ⊤}
+use Rattle.std.specs.Prelude.{ℕ, Bool, false, not, ◌&&◌, Option, Some, None, if◌then◌else◌, is_some, option_and_then, ⊤}
 use Rattle.std.specs.BTreeMap.{BTreeMap, get_by}
 use Rattle.std.specs.Borrow.{Bor}
 use Rattle.std.specs.Cmp.Lexicographic.{slice_cmp}
@@ -22,7 +22,9 @@ use Rattle.lei_records.specs.Rows.{Row}
 use Rattle.lei_records.specs.Tables.{seen_fact}
 use Rattle.authority_rules.specs.Taken.{unless_own}
 use Rattle.relation_rules.specs.Checks.{is_from}
+use Rattle.short_texts.specs.Packed.{at_pair}
 use Rattle.register_judge.specs.declared.overlay.Overlay.{Overlay}
+use Rattle.register_judge.specs.declared.takers.Takers.{Takers}
 
 -- ---- the cells after one write
 
@@ -82,25 +84,38 @@ Records = BTreeMap Lei (Bor Row)
 abbrev pub record_at : Records → Lei → Option Row
 record_at records lei = option_copied (get_by (slice_cmp nat_cmp lei) records)
 
+-- The LEI of a record, by the numbers of the two short texts of its key.
+abbrev pub ShortTakers : Type 0
+ShortTakers = BTreeMap (ℕ × ℕ) Lei
+
+-- The LEI of the record that took a key last, if the key has two short texts with these numbers.
+abbrev pub short_taker_at : ShortTakers → ℕ × ℕ → Option Lei
+short_taker_at short numbers =
+    get_by (λ k. ordering_then (nat_cmp numbers.0 k.0) (nat_cmp numbers.1 k.1)) short
+
 -- The LEI of a record, by the id under one authority.
 abbrev pub Ids : Type 0
 Ids = BTreeMap (Bor Text) Lei
 
--- The ids under each authority.
-abbrev pub Takers : Type 0
-Takers = BTreeMap (Bor Text) Ids
+-- The ids under each authority, for keys that have a text of more than 15 bytes.
+abbrev pub LongTakers : Type 0
+LongTakers = BTreeMap (Bor Text) Ids
 
 -- The LEI under an id.
 abbrev pub id_at : Ids → Text → Option Lei
 id_at ids id = get_by (λ k. slice_cmp nat_cmp id k.now) ids
 
 -- The ids under an authority.
-abbrev pub ids_at : Takers → Text → Option Ids
-ids_at takers authority = get_by (λ k. slice_cmp nat_cmp authority k.now) takers
+abbrev pub ids_at : LongTakers → Text → Option Ids
+ids_at long authority = get_by (λ k. slice_cmp nat_cmp authority k.now) long
+
+-- The LEI of the record that took a key last, if the key has a text of more than 15 bytes.
+abbrev pub long_taker_at : LongTakers → Text → Text → Option Lei
+long_taker_at long authority id = option_and_then (λ ids. id_at ids id) (ids_at long authority)
 
 -- The LEI of the record that took an authority key last.
 abbrev pub taker_at : Takers → Text → Text → Option Lei
-taker_at takers authority id = option_and_then (λ ids. id_at ids id) (ids_at takers authority)
+taker_at takers = at_pair (short_taker_at takers.short) (long_taker_at takers.long)
 
 -- If a record was put, it answers for its LEI.
 abbrev pub record_over : Option Row → Seen RecCell → Seen RecCell

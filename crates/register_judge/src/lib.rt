@@ -11,6 +11,7 @@ mod outcome;
 mod overlay;
 mod records;
 mod sitting;
+mod takers;
 
 pub use cell_reads::keys_of;
 pub use judging::{judge_all, judge_by};

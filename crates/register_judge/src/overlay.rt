@@ -15,6 +15,7 @@ ghost use Rattle.register_judge.specs.Overlays;
 ghost use Rattle.register_judge.specs.Overlays.{overlay_view};
 ghost use Rattle.register_judge.specs.Taking.{item_after};
 
+use crate::takers::Takers;
 use authority_rules::{holds, is_live, key_of};
 use lei_code::Lei;
 use lei_outside::NoMemory;
@@ -22,12 +23,6 @@ use lei_records::{ExceptionItem, Item, RecCell, Record, RelCell, Relation, Seen,
 use lei_shapes::{ExceptionCategory, RelationType};
 use std::alloc::Global;
 use std::collections::BTreeMap;
-
-// The LEI of a record, by the id under one authority.
-type Ids<'a> = BTreeMap<&'a str, Lei>;
-
-// The ids of each authority.
-type Takers<'a> = BTreeMap<&'a str, Ids<'a>>;
 
 // Relationships by start, type and end. Types and categories have no order of their own, so their texts are used.
 type Relations<'a> = BTreeMap<(Lei, &'static str, Lei), &'a Relation>;
@@ -65,7 +60,7 @@ impl<'a, V: View> View for Overlay<'a, V> {
     }
 
     fn holder(&self, authority: &str, id: &str) -> Seen<Lei> {
-        match self.taker(authority, id) {
+        match self.takers.get(authority, id) {
             Some(lei) => self.if_held(authority, id, lei),
             None => self.unless_replaced(self.view.holder(authority, id)),
         }
@@ -102,7 +97,7 @@ impl<'a, V: View> Overlay<'a, V> {
         Overlay {
             view,
             records: BTreeMap::new(alloc),
-            takers: BTreeMap::new(alloc),
+            takers: Takers::new(alloc),
             relations: BTreeMap::new(alloc),
             ends: BTreeMap::new(alloc),
             standing: BTreeMap::new(alloc),
@@ -149,13 +144,6 @@ impl<'a, V: View> Overlay<'a, V> {
         ensures { option_copied result ≡ Overlays.record_at self.now.records lei.now }
     {
         self.records.get(lei).copied()
-    }
-
-    fn taker(&self, authority: &str, id: &str) -> Option<Lei>
-        ensures { result ≡ Overlays.taker_at self.now.takers authority.now id.now }
-    {
-        let ids = self.takers.get(authority)?;
-        ids.get(id).copied()
     }
 
     // The LEI of the record that took a key, if the record still holds it.
@@ -231,57 +219,8 @@ fn put_taker<'a>(alloc: Global, takers: &mut Takers<'a>, item: &'a Record) -> Re
         return Ok(());
     }
     match key_of(item) {
-        Some((authority, id)) => insert(alloc, takers, authority, id, item.lei()),
+        Some((authority, id)) => takers.insert(alloc, authority, id, item.lei()),
         None => Ok(()),
-    }
-}
-
-// Notes this LEI as that of the record that took the key last.
-fn insert<'a>(
-    alloc: Global,
-    takers: &mut Takers<'a>,
-    authority: &'a str,
-    id: &'a str,
-    lei: Lei,
-) -> Result<(), NoMemory>
-    ensures { OnOk result ((a i : List ℕ) → Overlays.taker_at takers.new a i
-        ≡ (if bytes_eq authority.now a && bytes_eq id.now i then Some lei else Overlays.taker_at
-        takers.old a i)) }
-{
-    match takers.get_mut(authority) {
-        Some(ids) => insert_id(ids, id, lei),
-        None => insert_first(alloc, takers, authority, id, lei),
-    }
-}
-
-// Notes the first id under an authority.
-fn insert_first<'a>(
-    alloc: Global,
-    takers: &mut Takers<'a>,
-    authority: &'a str,
-    id: &'a str,
-    lei: Lei,
-) -> Result<(), NoMemory>
-    requires { Overlays.ids_at takers.old authority.now ≡ None }
-    ensures { OnOk result ((a i : List ℕ) → Overlays.taker_at takers.new a i
-        ≡ (if bytes_eq authority.now a && bytes_eq id.now i then Some lei else Overlays.taker_at
-        takers.old a i)) }
-{
-    let mut ids = BTreeMap::new(alloc);
-    insert_id(&mut ids, id, lei)?;
-    match takers.insert(authority, ids) {
-        Ok(_) => Ok(()),
-        Err(_) => Err(NoMemory),
-    }
-}
-
-fn insert_id<'a>(ids: &mut Ids<'a>, id: &'a str, lei: Lei) -> Result<(), NoMemory>
-    ensures { OnOk result ((i : List ℕ) → Overlays.id_at ids.new i
-        ≡ (if bytes_eq id.now i then Some lei else Overlays.id_at ids.old i)) }
-{
-    match ids.insert(id, lei) {
-        Ok(_) => Ok(()),
-        Err(_) => Err(NoMemory),
     }
 }
 

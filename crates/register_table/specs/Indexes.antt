@@ -1,5 +1,5 @@
 -- Indexes: what was noted under an authority key, and under a start and a type.
-use Rattle.std.specs.Prelude.{◌≡◌, Bool, Option, Some, None, is_some, option_and_then, option_map, true}
+use Rattle.std.specs.Prelude.{◌≡◌, ℕ, Bool, Option, Some, None, is_some, option_and_then, option_map, true}
 use Rattle.std.specs.BTreeMap.{BTreeMap, IsEmpty, get_by, get_by_text}
 use Rattle.std.specs.Borrow.{Bor}
 use Rattle.std.specs.Cmp.Lexicographic.{slice_cmp}
@@ -11,13 +11,24 @@ use Rattle.lei_records.specs.Cells.{holds}
 use Rattle.lei_records.specs.Relations.{is_active_of}
 use Rattle.lei_records.specs.Rows.{Row}
 use Rattle.register_table.specs.declared.ends.Ends.{Ends}
+use Rattle.short_texts.specs.Packed.{at_pair}
 use Rattle.register_table.specs.declared.authority_key_index.AuthorityKeyIndex.{AuthorityKeyIndex}
+use Rattle.register_table.specs.declared.long_key_index.LongKeyIndex.{LongKeyIndex}
+use Rattle.register_table.specs.declared.short_key_index.ShortKeyIndex.{ShortKeyIndex}
+
+-- What is under a key that has a text of more than 15 bytes: the LEI that was last noted there, or none after the key
+-- was freed.
+abbrev pub noted_long : LongKeyIndex → Text → Text → Option (Option Lei)
+noted_long long authority id = option_and_then (λ ids. get_by_text ids id) (get_by_text long.map authority)
+
+-- What is under a key of two short texts that have these numbers.
+abbrev pub noted_short : ShortKeyIndex → ℕ × ℕ → Option (Option Lei)
+noted_short short key = get_by (λ k. ordering_then (nat_cmp key.0 k.0) (nat_cmp key.1 k.1)) short.map
 
 -- What is under an authority key: the LEI that was last noted there, or none after the key was freed. The index doesn't
 -- have a key if no LEI was ever noted under it, or if it was dropped.
 abbrev pub noted_holder : AuthorityKeyIndex → Text → Text → Option (Option Lei)
-noted_holder holders authority id = option_and_then (λ ids. get_by_text ids id)
-    (get_by_text holders.map authority)
+noted_holder holders = at_pair (noted_short holders.short) (noted_long holders.long)
 
 -- The LEI under an authority key, if there is one.
 abbrev pub holder_in : AuthorityKeyIndex → Text → Text → Option Lei

@@ -1,28 +1,25 @@
 //! The index of the records that have authority keys.
-ghost use Rattle.std.specs.Prelude.{◌≡◌, ◌&&◌, ◌↔◌, IsTrue, List, ℕ, true, Some, None, if◌then◌else◌, OnOk, OnErr, is_some, option_map, string_bytes};
-ghost use Rattle.std.specs.BTreeMap.{get_by_text};
-ghost use Rattle.std.specs.Bool.{OnTrue};
+ghost use Rattle.std.specs.Prelude.{◌≡◌, ◌&&◌, List, ℕ, true, Some, None, if◌then◌else◌, OnOk, OnErr, is_some, option_map};
 ghost use Rattle.std.specs.Str.{bytes_eq};
 ghost use Rattle.lei_records.specs.Cells;
 ghost use Rattle.lei_records.specs.Cells.{lei_in};
-ghost use Rattle.register_table.specs.Indexes.{HoldsNewKey, IsBare, after_dropping, after_freeing, holder_in, noted_holder};
+ghost use Rattle.register_table.specs.Indexes.{HoldsNewKey, after_dropping, after_freeing, holder_in, noted_holder};
 
+use crate::long_key_index::LongKeyIndex;
+use crate::short_key_index::ShortKeyIndex;
 use authority_rules::{is_live, key_of};
 use lei_code::Lei;
 use lei_outside::NoMemory;
 use lei_records::Record;
+use short_texts::packed_pair;
 use std::alloc::Global;
-use std::collections::BTreeMap;
-
-// The LEI of a record by the id under one authority, or none if nobody has the key any more.
-type Ids = BTreeMap<String, Option<Lei>>;
 
 /// For each authority key, the LEI of the record that took it last. The record may no longer hold the key. A key that
-/// is freed stays without an LEI until it is dropped.
+/// is freed stays without an LEI until it is dropped. A key of two short texts is found by their numbers.
 #[derive(Drop)]
 pub struct AuthorityKeyIndex {
-    pub alloc: Global,
-    pub map: BTreeMap<String, Ids>,
+    pub short: ShortKeyIndex,
+    pub long: LongKeyIndex,
 }
 
 impl AuthorityKeyIndex {
@@ -31,8 +28,8 @@ impl AuthorityKeyIndex {
         ensures { (authority id : List ℕ) → noted_holder result authority id ≡ None }
     {
         AuthorityKeyIndex {
-            alloc,
-            map: BTreeMap::new(alloc),
+            short: ShortKeyIndex::new(alloc),
+            long: LongKeyIndex::new(alloc),
         }
     }
 
@@ -40,8 +37,10 @@ impl AuthorityKeyIndex {
     pub fn get(&self, authority: &str, id: &str) -> Option<Lei>
         ensures { result ≡ holder_in self.now authority.now id.now }
     {
-        let ids = self.map.get(authority)?;
-        *ids.get(id)?
+        match packed_pair(authority, id) {
+            Some(key) => self.short.get(key),
+            None => self.long.get(authority, id),
+        }
     }
 
     /// Notes a record under the key that it holds, if it holds one. If the index has the key already, nothing is
@@ -68,8 +67,9 @@ impl AuthorityKeyIndex {
             ≡ (if bytes_eq authority.now a && bytes_eq id.now i then after_freeing (noted_holder self.old a i)
             else noted_holder self.old a i) }
     {
-        if let Some(ids) = self.map.get_mut(authority) {
-            free_id(ids, id);
+        match packed_pair(authority, id) {
+            Some(key) => self.short.free(key),
+            None => self.long.free(authority, id),
         }
     }
 
@@ -80,34 +80,9 @@ impl AuthorityKeyIndex {
             (noted_holder self.old a i)
             else noted_holder self.old a i) }
     {
-        if self.get(authority, id).is_none() {
-            self.remove(authority, id);
-        }
-    }
-
-    // Removes an id, and its authority if this was the last id.
-    fn remove(&mut self, authority: &str, id: &str)
-        ensures { (a i : List ℕ) → noted_holder self.new a i
-            ≡ (if bytes_eq authority.now a && bytes_eq id.now i then None else noted_holder self.old a i) }
-    {
-        if self.remove_id(authority, id) {
-            self.map.remove(authority);
-        }
-    }
-
-    // Removes an id. The result is whether the authority is left without ids.
-    fn remove_id(&mut self, authority: &str, id: &str) -> bool
-        ensures removed { (a i : List ℕ) → noted_holder self.new a i
-            ≡ (if bytes_eq authority.now a && bytes_eq id.now i then None else noted_holder self.old a i) }
-        ensures last { OnTrue result ((i : List ℕ) → noted_holder self.new authority.now i ≡ None) }
-        ensures bare { IsTrue result ↔ IsBare (get_by_text self.new.map authority.now) }
-    {
-        match self.map.get_mut(authority) {
-            Some(ids) => {
-                ids.remove(id);
-                ids.is_empty()
-            }
-            None => false,
+        match packed_pair(authority, id) {
+            Some(key) => self.short.drop_freed(key),
+            None => self.long.drop_freed(authority, id),
         }
     }
 
@@ -118,25 +93,10 @@ impl AuthorityKeyIndex {
         ensures err { OnErr result ((a i : List ℕ) → noted_holder self.new a i ≡ noted_holder self.old a i) }
         ensures absent { OnErr result (noted_holder self.old authority.now id.now ≡ None) }
     {
-        match self.map.get_mut(authority) {
-            Some(ids) => note_id(self.alloc, ids, id, lei),
-            None => self.note_first(authority, id, lei),
+        match packed_pair(authority, id) {
+            Some(key) => self.short.note(key, lei),
+            None => self.long.note(authority, id, lei),
         }
-    }
-
-    // Notes the first id under an authority.
-    fn note_first(&mut self, authority: &str, id: &str, lei: Lei) -> Result<(), NoMemory>
-        requires { get_by_text self.old.map authority.now ≡ None }
-        ensures put { OnOk result ((a i : List ℕ) → noted_holder self.new a i
-            ≡ (if bytes_eq authority.now a && bytes_eq id.now i then Some (Some lei) else noted_holder
-            self.old a i)) }
-        ensures err { OnErr result ((a i : List ℕ) → noted_holder self.new a i ≡ noted_holder self.old a i) }
-    {
-        let mut ids = BTreeMap::new(self.alloc);
-        note_id(self.alloc, &mut ids, id, lei)?;
-        let authority = String::from_str(self.alloc, authority)?;
-        self.map.insert(authority, ids)?;
-        Ok(())
     }
 }
 
@@ -151,37 +111,4 @@ pub fn held_key(record: &Record) -> Option<(&str, &str)>
     } else {
         None
     }
-}
-
-// Frees an id: no LEI is left under it.
-fn free_id(ids: &mut Ids, id: &str)
-    ensures { (i : List ℕ) → get_by_text ids.new i
-        ≡ (if bytes_eq id.now i then after_freeing (get_by_text ids.old i) else get_by_text ids.old i) }
-{
-    if let Some(noted) = ids.get_mut(id) {
-        *noted = None;
-    }
-}
-
-// Notes the LEI under an id.
-fn note_id(alloc: Global, ids: &mut Ids, id: &str, lei: Lei) -> Result<(), NoMemory>
-    ensures put { OnOk result ((i : List ℕ) → get_by_text ids.new i
-        ≡ (if bytes_eq id.now i then Some (Some lei) else get_by_text ids.old i)) }
-    ensures err { OnErr result ((i : List ℕ) → get_by_text ids.new i ≡ get_by_text ids.old i) }
-    ensures absent { OnErr result (get_by_text ids.old id.now ≡ None) }
-{
-    if let Some(noted) = ids.get_mut(id) {
-        *noted = Some(lei);
-        return Ok(());
-    }
-    insert_id(ids, String::from_str(alloc, id)?, lei)
-}
-
-fn insert_id(ids: &mut Ids, id: String, lei: Lei) -> Result<(), NoMemory>
-    ensures put { OnOk result ((i : List ℕ) → get_by_text ids.new i
-        ≡ (if bytes_eq (string_bytes id) i then Some (Some lei) else get_by_text ids.old i)) }
-    ensures err { OnErr result ((i : List ℕ) → get_by_text ids.new i ≡ get_by_text ids.old i) }
-{
-    ids.insert(id, Some(lei))?;
-    Ok(())
 }

@@ -15,7 +15,7 @@ returns-in-Some c =
     let live : is_live c.args.item.now ≡ true = search rules in
     let key : Some (c.in-Some.authority.now, c.in-Some.id.now) ≡ akey c.args.item.now = search rules in
     on_ok_weaker c.insert.result
-    (taker_at-key c.args.item.now (c.in-Some.authority.now, c.in-Some.id.now) c.lei.result c.args.takers.now c.insert.new.takers live key c.lei.ensures.value)
+    (taker_at-key c.args.item.now (c.in-Some.authority.now, c.in-Some.id.now) c.lei.result c.args.takers.now c.insert.new.self live key c.lei.ensures.value)
     c.insert.ensures
 
 pub returns-in-None : goal.returns-in-None
