@@ -1,5 +1,6 @@
 pub mod Words
 pub mod Keys
+pub mod KeyTexts
 pub mod Heads
 pub mod NameTables
 pub mod Searching

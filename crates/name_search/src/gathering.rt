@@ -8,7 +8,7 @@ ghost use Rattle.std.specs.FinMap.Entries.{find, is_sorted};
 ghost use Rattle.name_search.specs.Gathering.{GathersPage};
 ghost use Rattle.name_search.specs.NameTables.{Name};
 
-use crate::key::Key;
+use crate::key::{Key, SearchKey};
 use crate::named_row::NamedRow;
 use crate::places::row_at;
 use crate::postings::{Keys, note_key};
@@ -145,7 +145,7 @@ fn gather_rising(
 {
     let mut gathered = nothing(alloc);
     for key in keys {
-        if let Some(row) = match_at(wanted, rows, key.as_str()) {
+        if let Some(row) = match_at(wanted, rows, &key.sought()) {
             gathered.add(alloc, start, row)?;
         }
     }
@@ -180,7 +180,7 @@ fn gather_each(
     let count = keys.len();
     prove!(count <= usize::MAX / 2);
     for key in keys.iter() {
-        if let Some(row) = match_at(wanted, rows, key.as_str()) {
+        if let Some(row) = match_at(wanted, rows, &key.sought()) {
             gathered.add(alloc, start, row)?;
         }
     }
@@ -188,7 +188,7 @@ fn gather_each(
 }
 
 // The row of a key, if there is one and it matches.
-fn match_at<'a>(wanted: &[Word], rows: &'a [NamedRow], key: &str) -> Option<&'a NamedRow>
+fn match_at<'a>(wanted: &[Word], rows: &'a [NamedRow], key: &SearchKey<'_>) -> Option<&'a NamedRow>
     requires { is_sorted text_cmp rows.now ≡ true }
     ensures { option_to_list (option_map (λ row. row.now) result)
         ≡ hits (spec.is_match wanted.now) key.now (find text_cmp key.now rows.now) }

@@ -11,6 +11,7 @@ ghost use Rattle.name_search.specs.Keys.{text_cmp};
 ghost use Rattle.name_search.specs.NameTables.{Name, key_and_name, number_in};
 ghost use Rattle.name_search.specs.Puts.{put_name, put_names};
 
+use crate::key::SearchKey;
 use crate::named_row::{NamedRow, text_of};
 use crate::places::place_of;
 use copy_csv::{Change, Head};
@@ -75,7 +76,7 @@ pub fn merge(
     let mut rows = VecDeque::from_vec(rows);
     let mut puts = puts.into_iter();
     for change in changes {
-        let (lesser, is_there) = place_of(&rows, text_of(change.row(), 1));
+        let (lesser, is_there) = place_of(&rows, &SearchKey::of(text_of(change.row(), 1)));
         move_rows(out, &mut rows, lesser);
         let place = out.len();
         put_change(out, &mut puts, change);

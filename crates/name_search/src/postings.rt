@@ -156,7 +156,7 @@ impl Postings {
         ensures { StaysFor rows.now self.old self.new }
     {
         let key = gone.key();
-        let row = row_near(rows, key.as_str(), place);
+        let row = row_near(rows, &key.sought(), place);
         for word in gone.words() {
             if has_word(row, word.as_str()) {
                 continue;

@@ -17,9 +17,9 @@ loop-change-preserved c =
     let is_change : IsChangeOf Sheet.Lei c.change-item.result = search rules in
     let few : length c.take_first.new.rows.items ≤ length c.move_rows.new.rows.items = omega (arith, ap length c.take_first.ensures.rows, length-drop 1 c.move_rows.new.rows.items) in
     record {
-      walked = walk_same c.args.rows.items c.args.changes.now c.loop-change.rows.items c.loop-change.change-index c.loop-change.out.items c.change-item.result c.text_of.result.now
+      walked = walk_same c.args.rows.items c.args.changes.now c.loop-change.rows.items c.loop-change.change-index c.loop-change.out.items c.change-item.result c.of.result
           c.place_of-lesser.result.0 c.loop-change.invariant.walked c.loop-change-test.true c.change-item.is is_change
-          (c.text_of.ensures.value ∙ ap (λ (row : SheetRow). text_at row.texts 1) c.row.ensures) c.place_of-lesser.ensures.within c.place_of-lesser.ensures.lesser
+          (c.of.ensures ∙ c.text_of.ensures.value ∙ ap (λ (row : SheetRow). text_at row.texts 1) c.row.ensures) c.place_of-lesser.ensures.within c.place_of-lesser.ensures.lesser
           c.move_rows.new.out.items c.move_rows.new.rows.items c.take_first.new.rows.items c.put_change.new.out.items (c.place_of-lesser.ensures.there c.if-not-is_there.false)
           (c.place_of-lesser.ensures.same c.if-not-is_there.false) c.move_rows.ensures.out c.move_rows.ensures.rows c.take_first.ensures.rows c.put_change.ensures.out;
       sorted = ap (is_sorted text_cmp) (c.take_first.ensures.rows ∙ ap (drop 1) c.move_rows.ensures.rows)
@@ -42,9 +42,9 @@ pub loop-change-preserved-then-not-is_there : goal.loop-change-preserved-then-no
 loop-change-preserved-then-not-is_there c =
     let is_change : IsChangeOf Sheet.Lei c.change-item.result = search rules in
     record {
-      walked = walk_greater c.args.rows.items c.args.changes.now c.loop-change.rows.items c.loop-change.change-index c.loop-change.out.items c.change-item.result c.text_of.result.now
+      walked = walk_greater c.args.rows.items c.args.changes.now c.loop-change.rows.items c.loop-change.change-index c.loop-change.out.items c.change-item.result c.of.result
           c.place_of-lesser.result.0 c.loop-change.invariant.walked c.loop-change-test.true c.change-item.is is_change
-          (c.text_of.ensures.value ∙ ap (λ (row : SheetRow). text_at row.texts 1) c.row.ensures) c.place_of-lesser.ensures.within c.place_of-lesser.ensures.lesser
+          (c.of.ensures ∙ c.text_of.ensures.value ∙ ap (λ (row : SheetRow). text_at row.texts 1) c.row.ensures) c.place_of-lesser.ensures.within c.place_of-lesser.ensures.lesser
           c.move_rows.new.out.items c.move_rows.new.rows.items c.put_change.new.out.items (c.place_of-lesser.ensures.greater c.if-not-is_there.true)
           c.move_rows.ensures.out c.move_rows.ensures.rows c.put_change.ensures.out;
       sorted = ap (is_sorted text_cmp) c.move_rows.ensures.rows ∙ sorted_drop c.place_of-lesser.result.0 c.loop-change.rows.items c.loop-change.invariant.sorted;

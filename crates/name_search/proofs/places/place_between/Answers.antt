@@ -10,7 +10,7 @@ loop-low-preserved-in-Less c = record {
   ordered = omega arith;
   below = c.loop-low.invariant.below;
   above = above_from c.args.rows.now.items c.args.key.now (c.loop-low.low + (c.loop-low.high - c.loop-low.low) / 2) c.index-row.result.now c.requires.sorted (omega arith) c.index-row.ensures
-      (ap (slice_cmp nat_cmp c.args.key.now) (sym (c.as_str.ensures ∙ c.key.ensures)) ∙ sym c.cmp.ensures ∙ c.in-Less.is);
+      (ap (slice_cmp nat_cmp c.args.key.now) (sym c.key.ensures) ∙ sym c.compare.ensures ∙ c.in-Less.is);
 }
 
 pub loop-low-preserved : goal.loop-low-preserved
@@ -18,19 +18,19 @@ loop-low-preserved c = record {
   within = c.loop-low.invariant.within;
   ordered = omega arith;
   below = below_to c.args.rows.now.items c.args.key.now (c.loop-low.low + (c.loop-low.high - c.loop-low.low) / 2) c.index-row.result.now c.requires.sorted (omega arith) c.index-row.ensures
-      (ap (slice_cmp nat_cmp c.args.key.now) (sym (c.as_str.ensures ∙ c.key.ensures)) ∙ sym c.cmp.ensures ∙ c.in-Greater.is);
+      (ap (slice_cmp nat_cmp c.args.key.now) (sym c.key.ensures) ∙ sym c.compare.ensures ∙ c.in-Greater.is);
   above = c.loop-low.invariant.above;
 }
 
 pub returns-in-Equal-clause-lesser : goal.returns-in-Equal-clause-lesser
 returns-in-Equal-clause-lesser c =
     below_here c.args.rows.now.items c.args.key.now (c.loop-low.low + (c.loop-low.high - c.loop-low.low) / 2) c.index-row.result.now c.requires.sorted (omega arith) c.index-row.ensures
-    (ap (slice_cmp nat_cmp c.args.key.now) (sym (c.as_str.ensures ∙ c.key.ensures)) ∙ sym c.cmp.ensures ∙ c.in-Equal.is)
+    (ap (slice_cmp nat_cmp c.args.key.now) (sym c.key.ensures) ∙ sym c.compare.ensures ∙ c.in-Equal.is)
 
 pub returns-in-Equal-clause-same : goal.returns-in-Equal-clause-same
 returns-in-Equal-clause-same c = λ is.
     is_here c.args.rows.now.items c.args.key.now (c.loop-low.low + (c.loop-low.high - c.loop-low.low) / 2) c.index-row.result.now (omega arith) c.index-row.ensures
-    (ap (slice_cmp nat_cmp c.args.key.now) (sym (c.as_str.ensures ∙ c.key.ensures)) ∙ sym c.cmp.ensures ∙ c.in-Equal.is)
+    (ap (slice_cmp nat_cmp c.args.key.now) (sym c.key.ensures) ∙ sym c.compare.ensures ∙ c.in-Equal.is)
 
 pub returns-clause-greater : goal.returns-clause-greater
 returns-clause-greater c = λ is. above_upto c.args.rows.now.items c.args.key.now c.loop-low.high c.loop-low.low c.loop-low.invariant.above c.loop-low-test.false

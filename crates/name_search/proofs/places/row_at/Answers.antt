@@ -10,20 +10,20 @@ loop-low-preserved-in-Less c = record {
   ordered = omega arith;
   below = c.loop-low.invariant.below;
   above = above_from c.args.rows.now c.args.key.now (c.loop-low.low + (c.loop-low.high - c.loop-low.low) / 2) c.index-rows-middle.result c.requires (omega arith) c.index-rows-middle.is
-      (ap (slice_cmp nat_cmp c.args.key.now) (sym (c.as_str.ensures ∙ c.key.ensures)) ∙ sym c.cmp.ensures ∙ c.in-Less.is);
+      (ap (slice_cmp nat_cmp c.args.key.now) (sym c.key.ensures) ∙ sym c.compare.ensures ∙ c.in-Less.is);
 }
 
 pub returns-in-Equal : goal.returns-in-Equal
 returns-in-Equal c =
     found_is c.args.rows.now c.args.key.now (c.loop-low.low + (c.loop-low.high - c.loop-low.low) / 2) c.index-rows-middle.result c.requires (omega arith) c.index-rows-middle.is
-    (ap (slice_cmp nat_cmp c.args.key.now) (sym (c.as_str.ensures ∙ c.key.ensures)) ∙ sym c.cmp.ensures ∙ c.in-Equal.is)
+    (ap (slice_cmp nat_cmp c.args.key.now) (sym c.key.ensures) ∙ sym c.compare.ensures ∙ c.in-Equal.is)
 
 pub loop-low-preserved : goal.loop-low-preserved
 loop-low-preserved c = record {
   within = c.loop-low.invariant.within;
   ordered = omega arith;
   below = below_to c.args.rows.now c.args.key.now (c.loop-low.low + (c.loop-low.high - c.loop-low.low) / 2) c.index-rows-middle.result c.requires (omega arith) c.index-rows-middle.is
-      (ap (slice_cmp nat_cmp c.args.key.now) (sym (c.as_str.ensures ∙ c.key.ensures)) ∙ sym c.cmp.ensures ∙ c.in-Greater.is);
+      (ap (slice_cmp nat_cmp c.args.key.now) (sym c.key.ensures) ∙ sym c.compare.ensures ∙ c.in-Greater.is);
   above = c.loop-low.invariant.above;
 }
 
