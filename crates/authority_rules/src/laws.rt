@@ -5,8 +5,8 @@ ghost use Rattle.lei_records.specs.Spelled.{IsRecordRow};
 ghost use Rattle.lei_records.specs.Tables.{Table, IsSoundTable, put};
 ghost use Rattle.authority_rules.specs.Taken.{IsFree};
 
-/// If no other live record has a record's authority key, or the record isn't live, it can be put into a sound table,
-/// which stays sound.
+/// Suppose a record isn't live, or no other live record has its authority key. If it is put into a sound table, the
+/// table stays sound.
 pub fn free_records_keep_tables_sound()
     ensures { (table : Table) (row : Row) → IsSoundTable table → IsRecordRow row → IsFree table row
         → IsSoundTable (put table (Item.Record row)) }

@@ -1,4 +1,4 @@
--- The text of a copy and of a delta in CSV (RFC 4180), with every field in quotes and LF at the end of each line.
+-- The text of a copy and of a delta in CSV (RFC 4180). Every field is in quotes, and each line ends with LF.
 use Rattle.std.specs.Prelude.{◌≡◌, ℕ, List, [], ◌∷◌, ◌++◌, ◌==◌, Bool, true, false, if◌then◌else◌, flat_map, codes, IsTrue}
 use Rattle.std.specs.List.{All}
 use Rattle.lei_code.specs.Texts.{Text}

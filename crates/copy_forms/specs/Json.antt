@@ -1,5 +1,5 @@
--- The text of a golden copy and of a delta in JSON: the compact text of a value (RFC 8259), with no space, with the
--- shortest escapes and with no byte after it. What the value has is this project's profile.
+-- The text of a golden copy and of a delta in JSON: the compact text of a value (RFC 8259). It is written with no
+-- space, with the shortest escapes and with no byte after it. What the value has is this project's profile.
 use Rattle.std.specs.Prelude.{ℕ, List, [], ◌∷◌, map, length, codes, if◌then◌else◌}
 use Rattle.serde_json.specs.Data.{Data, string, number, unsigned, array, object, Items, no_items, item, Members, no_members, member}
 use Rattle.serde_json.specs.Written.{compact_text}

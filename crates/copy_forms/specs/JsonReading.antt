@@ -1,5 +1,5 @@
--- What is read from JSON: the only value whose text is printed there, and the bytes after it; or nothing, if no such
--- text is there.
+-- What is read from JSON: the only value whose text is printed there, and the bytes after it. Nothing is read if no
+-- such text is there.
 use Rattle.std.specs.Prelude.{◌≡◌, ℕ, zero, suc, List, [], ◌∷◌, ◌++◌, ◌==◌, nat_lt, Bool, true, false, ◌||◌, if◌then◌else◌, Option, Some, None, Result, Ok, Err, option_map, option_and_then, ℤ, ◌^◌, ◌&&◌, nat_le, decimal, codes, take, drop, map, ⊤}
 use Rattle.std.specs.Str.{bytes_eq, is_utf8}
 use Rattle.std.specs.Borrow.{Bor}

@@ -31,8 +31,8 @@ abbrev pub put_between : List Change → ℕ → ℕ → List SheetRow
 put_between changes at next = flat_map put_by (take (next - at) (drop at changes))
 
 -- A row is placed among the changes from `at` on, and those from `next` on are left to the rows after it. Whatever
--- these rows are, merging the row and them with the changes gives three parts: what the changes before `next` put, the
--- row if it stays, and the rows after it, merged with the changes that are left.
+-- these rows are, merging the row and them with the changes gives three parts. First comes what the changes before
+-- `next` put, then the row if it stays. Last come the rows after it, merged with the changes that are left.
 abbrev pub IsPlaceAmong : List Change → SheetRow → ℕ → ℕ → Bool → Type 0
 IsPlaceAmong changes row at next stays =
     (more : List SheetRow)

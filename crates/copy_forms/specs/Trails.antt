@@ -115,8 +115,8 @@ touched_in sheet later = flat_map (λ publication. publication.touched sheet) la
 abbrev pub between : Trail → ℕ → ℕ → List Publication
 between trail from number = take (number - from) (drop from trail)
 
--- The changes of the delta between two publications: each key that was touched after the first one, once and in order,
--- with its row in the second one.
+-- The changes of the delta between two publications: the keys that were touched after the first one, up to the second
+-- one. Each key comes once and in order, with its row in the second one, if it has one.
 abbrev pub changes_between : Trail → ℕ → ℕ → Publication → Sheet → List Change
 changes_between trail from number publication sheet =
     map (change_at_key sheet (publication.rows sheet)) (keys_in_order (touched_in sheet (between trail from number)))
@@ -141,8 +141,8 @@ DeltasLeadOn trail =
     → IsPatched (copy_of p base sheet form) (delta_between trail p q latest sheet form)
     (copy_of q latest sheet form) sheet form
 
--- In the trail, take the copy of a publication, and a delta from the same or an earlier one to the same or a later one.
--- The copy patched by the delta is the copy of the one that the delta leads to, byte for byte.
+-- In the trail, take the copy of a publication. Also take a delta from the same or an earlier one to the same or a
+-- later one. The copy patched by the delta is the copy of the one that the delta leads to, byte for byte.
 abbrev pub DeltasLeadOnFromBetween : Trail → Type 0
 DeltasLeadOnFromBetween trail =
     (p q r : ℕ) (copied latest : Publication) → 1 ≤ p → p ≤ q → q ≤ r

@@ -26,8 +26,8 @@ impl HeldChange for Change {
     }
 }
 
-/// Where a row is among the changes from the index `at` on, if their keys rise: the index after those that come before
-/// the row or have its key, and whether the row stays. It stays if no change has its key.
+/// Where a row is among the changes from the index `at` on, if their keys rise. The result is the index after the
+/// changes that come before the row or have its key, and whether the row stays. It stays if no change has its key.
 pub fn place_row<C: HeldChange>(changes: &[C], at: usize, row: &Row) -> (usize, bool)
     requires place { at ≤ length changes.now }
     requires sheets { All (λ change. (changed_row (C.change change)).sheet ≡ row.now.sheet) changes.now }

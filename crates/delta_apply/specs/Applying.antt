@@ -66,9 +66,9 @@ pub record IsOlder (copy delta : Text) (sheet : Sheet) (form : Form) : Type 0 wh
   pub changes : List Change
   pub delta_is : IsDelta delta sheet form head false changes
 
--- The right result for a copy and a delta is the first of these that applies: the copy isn't one, the delta isn't one,
--- their publications or their widths don't fit together, or the copy after the delta. Out of memory is never a right
--- result.
+-- The right result for a copy and a delta. The first fault that applies is right: the copy isn't one, the delta isn't
+-- one, or their publications or their widths don't fit together. If none applies, the copy after the delta is right.
+-- Out of memory is never a right result.
 abbrev pub IsAnswer : Text → Text → Sheet → Form → Result Text ApplyFault → Type 0
 IsAnswer copy delta sheet form (Ok bytes) = IsApplied copy delta bytes sheet form
 IsAnswer copy delta sheet form (Err faults.CopyNotRead) = IsNoCopy copy sheet form

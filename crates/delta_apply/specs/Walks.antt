@@ -61,9 +61,9 @@ IsPatchedCsv sheet copy wide changes (Err faults.NoMemory) = ⊤
 
 -- ---- in JSON
 
--- The result for rows and changes that were read from JSON with these heads: the patched copy with the delta's head, or
--- the wrong base with both numbers. Both texts were read, and there is only one width, so no other fault occurs. Out of
--- memory says nothing.
+-- The result for rows and changes that were read from JSON with these heads. It is the patched copy with the delta's
+-- head, or the wrong base with both numbers. Both texts were read, and there is only one width, so no other fault
+-- occurs. Out of memory says nothing.
 abbrev pub IsPatchedJson : Head → List SheetRow → Head → List Change → Result Text ApplyFault → Type 0
 IsPatchedJson base rows head changes (Ok bytes) =
     (base.publication ≡ head.from) × (bytes ≡ json_copy (patched_head head) (patched rows changes))

@@ -62,8 +62,8 @@ abbrev pub plain_name : List Named → List (List ℕ) → List ℕ → Option (
 plain_name known parameters name =
     hole_or_text (parts_of_text known parameters name [] (text_named known name 0)) (index_among parameters name)
 
--- What the words between `<` and `>` mean: the hole of the parameter with that name, the known text with that name and
--- these arguments, or a byte.
+-- What the words between `<` and `>` mean. They stand for the hole of the parameter with that name, the known text with
+-- that name and these arguments, or a byte.
 abbrev pub parts_of_words : List Named → List (List ℕ) → List (List ℕ) → Option (List Part)
 parts_of_words known parameters [] = None
 parts_of_words known parameters (name ∷ []) = plain_name known parameters name

@@ -12,9 +12,9 @@ use Rattle.example_sessions.specs.declared.run.RulesChange.{RulesChange}
 use Rattle.example_sessions.specs.declared.texts.Part.{Part}
 use Rattle.example_sessions.specs.declared.texts.Named.{Named}
 
--- A run of the program: its words, the changes to its store before it (answers and rules), the moments of its clock,
--- the numbers of the calls that its keeper refuses, the bytes that are sent, those of a second file, the bytes that
--- must come back, and the status that it must end with.
+-- A run of the program: its words, the changes to its store before it (answers and rules), and the moments of its
+-- clock. It has the numbers of the calls that its keeper refuses, the bytes that are sent, and those of a second file.
+-- It also has the bytes that must come back, and the status that it must end with.
 pub record RunState : Type 0 where
   pub words : List (List ℕ)
   pub changes : List Change
@@ -113,8 +113,8 @@ after_text known run sign text =
     option_and_then (λ parts. with_bytes run sign (fill_holes [] parts ++ line_end_of text))
     (text_parts known [] (front_of text))
 
--- the names that a repeated line uses for its number, and what they stand for: the number, its code, and the code of
--- the number before it
+-- The names that a repeated line uses for its number. They stand for the number, its code, and the code of the number
+-- before it.
 abbrev pub number_names : List (List ℕ)
 number_names = codes "NUMBER" ∷ codes "LEI" ∷ codes "BEFORE" ∷ []
 

@@ -49,9 +49,9 @@ impl Model for NumberRange {
     ghost invariant = { λ r. r.last ≤ 1000000 };
 }
 
-/// A run of the program: its words, the changes to its store before it (answers and rules), the moments of its clock,
-/// the numbers of the calls that its keeper refuses, the bytes that are sent, those of a second file, the bytes that
-/// must come back, and the status that it must end with.
+/// A run of the program: its words, the changes to its store before it (answers and rules), and the moments of its
+/// clock. It has the numbers of the calls that its keeper refuses, the bytes that are sent, and those of a second file.
+/// It also has the bytes that must come back, and the status that it must end with.
 #[derive(Drop)]
 pub struct Run {
     words: Vec<String>,

@@ -94,7 +94,8 @@ impl Session {
         rest: &str,
     ) -> Result<Self, Fault>
         ensures { ExampleGives (λ session. session) result
-            (Sessions.with_last known.now self word.now rest.now (slice_get self.runs (length self.runs - 1))) }
+            (Sessions.with_last known.now self word.now rest.now
+            (slice_get self.runs (length self.runs - 1))) }
     {
         let Some(run) = self.runs.pop() else {
             return Err(Fault::Form);

@@ -6,8 +6,8 @@ use crate::run::Run;
 use std::alloc::Global;
 use std::io;
 
-/// The session that a run belongs to, and how the run is made: with this title, in this file, by reads and writes of at
-/// most this many bytes.
+/// The session that a run belongs to: with this title, in this file. The run is made by reads and writes of at most
+/// this many bytes.
 #[derive(Clone, Copy)]
 pub struct Trial<'a> {
     pub file: &'a str,

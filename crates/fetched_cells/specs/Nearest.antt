@@ -29,8 +29,8 @@ by_levels zero nexts met before = []
 by_levels (suc n) nexts met before =
     let level = new_ones nexts met before in level ++ by_levels n nexts (met ++ level) level
 
--- The first 201 different LEIs of an entity's levels, other than its own: level by level, each at the first level that
--- has it, and in byte order within a level. After a level without a new LEI there are no new ones, so 201 levels have
--- them all.
+-- The first 201 different LEIs of an entity's levels, other than its own. They come level by level, each at the first
+-- level that has it, and in byte order within a level. After a level without a new LEI there are no new ones, so 201
+-- levels have them all.
 abbrev pub nearest : Nexts → Lei → List Lei
 nearest nexts own = take 201 (by_levels 201 nexts (own ∷ []) (own ∷ []))

@@ -190,7 +190,8 @@ fn insert_holder(
     found: Seen<Lei>,
 ) -> Result<(), NoMemory>
     ensures put { OnOk result ((a i : List ℕ) → value_at_texts holders.new a i
-        ≡ (if bytes_eq authority.now a && bytes_eq id.now i then Some found else value_at_texts holders.old a i)) }
+        ≡ (if bytes_eq authority.now a && bytes_eq id.now i then Some found
+        else value_at_texts holders.old a i)) }
     ensures err { OnErr result ((a i : List ℕ)
         → value_at_texts holders.new a i ≡ value_at_texts holders.old a i) }
 {

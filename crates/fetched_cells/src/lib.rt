@@ -1,5 +1,5 @@
-//! A part of a view: the cells with some keys, and those of the walks from the records among them, as many as there is
-//! room for. This project's profile.
+//! A part of a view: the cells with some keys, and those of the walks from the records among them. It has as many of
+//! these cells as there is room for. This project's profile.
 #![tactic(auto)]
 
 mod fetched;

@@ -22,8 +22,8 @@ line_or text (Some fault) = (codes "refused " ++ lei_fault_words fault) ++ 10 �
 abbrev pub check_line : Text → Text
 check_line text = line_or (codes "valid") (fault_of text)
 
--- Why no check digits are computed for a text: it doesn't have 18 bytes, or some of them aren't allowed in an LEI, and
--- the first of these is reported.
+-- Why no check digits are computed for a text. Either it doesn't have 18 bytes, or some of them aren't allowed in an
+-- LEI, and the first of these is reported.
 abbrev pub digits_fault : Text → Option LeiFault
 digits_fault text = if length text == 18 then character_fault text else Some Length
 

@@ -52,9 +52,9 @@ report_text table who = if is_all who then disagreement_report table else group_
 
 -- ---- the required answer
 
--- The required answer for two files, in this order: that the first isn't a copy of `lei`, that the second isn't a copy
--- of `rr`, that they are from two publications, that the first has no row for the entity, or the report. Lack of memory
--- is never a required answer.
+-- The required answer for two files: the first of these faults that applies, in this order, or the report if none does.
+-- The first file isn't a copy of `lei`, or the second isn't a copy of `rr`. The two are from two publications, or the
+-- first has no row for the entity. Lack of memory is never a required answer.
 abbrev pub IsReport : Text → Form → Text → Text → Result Text GroupRefusal → Type 0
 IsReport who form lei rr (Ok text) =
     (copies : AreCopies lei rr form) × GoTogether form copies.lei_head copies.rr_head

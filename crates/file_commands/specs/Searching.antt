@@ -82,8 +82,8 @@ pub record AnswersAllQueries (form : Form) (queries copy : Text) (before after :
   pub answers : AnswersToEnd (SearchStep form) search_rules (search_progress (state_of read) before.written) queries
       (search_progress last after.written)
 
--- If queries and a copy are told and short enough, the file is refused with status 2 if it isn't a copy, and otherwise
--- all queries are answered.
+-- What the command does if queries and a copy are told and short enough. If the file isn't a copy, it is refused with
+-- status 2. Otherwise all queries are answered.
 abbrev pub CompletesSearch : Form → Files → Files → ℕ → Type 0
 CompletesSearch form before after status =
     (queries copy : List ℕ) → before.first ≡ Some queries → before.second ≡ Some copy

@@ -66,8 +66,8 @@ FailsOneOf left faults old new other_left other_faults other_old other_new =
     (FailsLast left faults old new × (other_faults other_new ≡ other_faults other_old))
     ⊎ ((faults new ≡ faults old) × FailsLast other_left other_faults other_old other_new)
 
--- If `fault` holds, a read of one of two sources failed, nothing was read from it after that, and the count of faults
--- of the other one is unchanged. Otherwise both counts are unchanged.
+-- If `fault` holds, a read of one of two sources failed, and nothing was read from it after that. The count of faults
+-- of the other one is then unchanged. If `fault` doesn't hold, both counts are unchanged.
 pub record OneFailsIf {S T : Type 0} (fault : Type 0) (left : S → Option (List ℕ)) (faults : S → ℕ) (old new : S)
     (other_left : T → Option (List ℕ)) (other_faults : T → ℕ) (other_old other_new : T) : Type 0 where
   pub last : fault → FailsOneOf left faults old new other_left other_faults other_old other_new

@@ -33,8 +33,8 @@ pub enum GroupRefusal {
     NoMemory,
 }
 
-/// Reads a copy of `lei` and one of `rr` to their ends, and writes the report on the group of an entity, or why there
-/// is none. With `ALL` instead of an LEI, the report is on all starts of relationships.
+/// Reads a copy of `lei` and one of `rr` to their ends. Then it writes the report on the group of an entity, or why
+/// there is none. With `ALL` instead of an LEI, the report is on all starts of relationships.
 pub fn group<S: Source, T: Source, W: Sink>(
     alloc: Global,
     who: &str,

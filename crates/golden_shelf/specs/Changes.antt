@@ -51,8 +51,8 @@ IsPlain change = IfSome change.1 (λ row. IsTrue (fits false row))
 abbrev pub ArePlain : KeyChanges → Type 0
 ArePlain changes = AllByRecursion IsPlain (in_sheet Sheet.Lei changes)
 
--- The publication that follows these rows with these changes: it has the moment and the width, the rows of each sheet
--- patched by the changes of that sheet, and the keys that changed.
+-- The publication that follows these rows with these changes. It has the moment, the width and the keys that changed.
+-- Its rows of each sheet are the rows before, patched by the changes of that sheet.
 pub record IsIssued (before : Sheet → List SheetRow) (moment : ℤ) (wide : Bool) (changes : KeyChanges)
     (next : Publication) : Type 0 where
   pub moment_is : next.moment ≡ moment

@@ -30,8 +30,8 @@ latest_rows trail = (latest_or_nothing trail).rows
 
 -- ---- what is kept
 
--- What is kept: for each publication its moment, its width and the keys that changed, and for the latest one the texts
--- of its rows under their keys.
+-- What is kept. For each publication, this is its moment, its width and the keys that changed. For the latest one, it
+-- is also the texts of its rows under their keys.
 pub record Kept : Type 0 where
   pub issues : List Issue
   pub lei : List KeyedLine
@@ -74,7 +74,7 @@ AreIssuesOf [] [] = ⊤
 AreIssuesOf (issue ∷ issues) (publication ∷ trail) = IsIssueOf issue publication × AreIssuesOf issues trail
 AreIssuesOf issues trail = ⊥
 
--- This is kept for a trail: the trail is sound, its publications are those for which something is kept, and the lines
+-- This is kept for a trail: the trail is sound, and its publications are those for which something is kept. The lines
 -- of each sheet are those of the latest rows.
 pub record KeepsTrail (trail : Trail) (kept : Kept) : Type 0 where
   pub sound : IsSoundTrail trail

@@ -72,12 +72,12 @@ impl Shelf {
         })
     }
 
-    /// Publishes the rows of the latest publication with these changes: each key with its current row, or with none if
-    /// it no longer has a row. Each change is a step. No other row is rendered, not even if this publication is the
-    /// first wide one. The conditions are: keys are those of their rows and rise within each sheet, there were fewer
-    /// than 1,000,000 publications, and the width may follow. After a wide publication only wide ones follow, and a
-    /// narrow one has nothing in the columns that only wide files have. On an error (out of memory) everything stays as
-    /// it was, including what can be taken back.
+    /// Publishes the rows of the latest publication with these changes. A change is a key with its current row, or with
+    /// none if it no longer has a row. Each change is a step. No other row is rendered, not even if this publication is
+    /// the first wide one. The conditions are: keys are those of their rows and rise within each sheet, there were
+    /// fewer than 1,000,000 publications, and the width may follow. After a wide publication only wide ones follow, and
+    /// a narrow one has nothing in the columns that only wide files have. On an error (out of memory) everything stays
+    /// as it was, including what can be taken back.
     pub fn publish<L: Ledger, R: Threads + Sync>(
         &mut self,
         rt: &R,

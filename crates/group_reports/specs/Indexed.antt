@@ -11,8 +11,8 @@ pub record LinkTable : Type 0 where
   pub links : List Link
   pub leis : List Lei
 
--- These are the number of the links, the LEIs in them, the places that they start at, and for each place those of its
--- parents: the direct one, the reported ultimate one, and the computed ultimate one.
+-- These are the number of the links, the LEIs in them, and the places that they start at. They also give for each place
+-- the places of its parents: the direct one, the reported ultimate one, and the computed ultimate one.
 pub record LinksAreIndexed (links : List Link) (count : ℕ) (leis : List Lei) (starts : List ℕ) (parents ultimates tops : List (Option ℕ)) : Type 0 where
   pub counted : count ≡ length links
   pub leis_are : leis ≡ leis_of links

@@ -82,8 +82,8 @@ pub record LeadsFar (parents : List (Option ℕ)) (least : ℕ) (far : List ℕ)
   pub enough : least ≤ steps
   pub leads : LeadsBy parents steps far
 
--- The end of a walk up, given the place that many steps lead to: none if no step leads up from the start, or if one
--- still leads up from that place.
+-- The end of a walk up, given the place that many steps lead to. There is none if no step leads up from the start, or
+-- if one still leads up from that place.
 abbrev pub end_by : List (Option ℕ) → ℕ → ℕ → Option ℕ
 end_by parents place far =
     if is_none (step_up parents place) then None else if is_some (step_up parents far) then None else Some far

@@ -54,8 +54,8 @@ impl Groups {
         })
     }
 
-    /// The report on the group of an entity: which entities belong to it by direct parents, and where the reported
-    /// ultimate parent of the entity or of a member differs.
+    /// The report on the group of an entity: which entities belong to it by direct parents. It also shows for which of
+    /// them, the entity included, the reported ultimate parent differs.
     pub fn report(&self, who: &str) -> Result<Bytes, ReportFault>
         ensures text { IfOk result (λ bytes. bytes ≡ spec.group_report self.now who.now) }
         ensures known { OnOk result (IsSome (name_at self.now.names who.now)) }

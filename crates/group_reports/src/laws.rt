@@ -6,8 +6,8 @@ ghost use Rattle.lei_code.specs.Texts.{Lei};
 ghost use Rattle.group_reports.specs.Groups.{LeadsUpTo, members};
 ghost use Rattle.group_reports.specs.Links.{Link};
 
-/// An entity other than the root is a member exactly if a chain of direct parents leads from it to the root, however
-/// long the chain is. The root isn't a member, and no entity is a member twice. Walks may come back to an earlier
+/// An entity other than the root is a member exactly if a chain of direct parents leads from it to the root. The chain
+/// may have any length. The root isn't a member, and no entity is a member twice. Walks may come back to an earlier
 /// entity.
 pub fn members_are_those_with_a_chain()
     ensures chain { (links : Items Link) (root lei : Lei) → lei ≢ root

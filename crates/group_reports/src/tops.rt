@@ -6,8 +6,8 @@ ghost use Rattle.group_reports.specs.Places.{FindsTops, LeadsBy, LeadsFar, Leads
 use lei_outside::NoMemory;
 use std::alloc::Global;
 
-/// For each place the end of the walk up from it, if it has a parent and the walk doesn't come back to an earlier
-/// place. No walk that ends takes more steps than `longest`.
+/// For each place the end of the walk up from it. There is none if the place has no parent, or if the walk comes back
+/// to an earlier place. No walk that ends takes more steps than `longest`.
 pub fn tops_of(
     alloc: Global,
     parents: &[Option<usize>],

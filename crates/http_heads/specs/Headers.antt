@@ -58,7 +58,7 @@ content_length headers = length_of_values (values_of (codes "content-length") he
 
 -- ---- Connection
 
--- One of the parts of a value is `close`: the value is cut at commas, and spaces and tabs at both ends of a part don't
+-- One of the parts of a value is `close`. The value is cut at commas, and spaces and tabs at both ends of a part don't
 -- count.
 abbrev pub has_close : List ℕ → Bool
 has_close value = list_any (λ part. are_alike (trim_ows part) (codes "close")) (slice_split (λ byte. byte == 44) value)

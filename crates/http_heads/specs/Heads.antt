@@ -64,8 +64,8 @@ first_fault (Some fault) second = Some fault
 abbrev pub fault_by : HeaderFacts → Method → Option Place → Option Refusal
 fault_by facts method place = first_fault (fault_of_headers facts) (fault_of_upload method place facts.body)
 
--- Why a complete head is refused, the first that applies: it has more than 32 headers; what the headers say; or it
--- belongs to an upload without a length.
+-- Why a complete head is refused, by the first reason that applies. It has more than 32 headers, or it is refused for
+-- what they say, or it belongs to an upload without a length.
 abbrev pub head_fault : RequestHead → Option Refusal
 head_fault head =
     if nat_lt 32 (length head.fields) then Some Refusal.HeadTooLong

@@ -1,5 +1,5 @@
-//! HTTP requests and responses, apart from what a connection does: the heads of requests and which are refused, what a
-//! request asks, and the heads of responses.
+//! HTTP requests and responses, apart from what a connection does. These are the heads of requests and which are
+//! refused, what a request asks, and the heads of responses.
 #![tactic(auto)]
 
 mod asking;

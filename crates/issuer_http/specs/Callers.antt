@@ -9,9 +9,9 @@ use Rattle.lei_hall.specs.Passes.{HallPass}
 use Rattle.issuer_http.specs.Serving.{ServesBy}
 use Rattle.issuer_http.specs.declared.ended.Ended.{Ended}
 
--- What serving does by the turns of a pass, which stays the same one. Whatever session leads from its state before to
--- its state after: what it was told grew by one member for each request that was put to the office, in order, and one
--- turn for each of these leads from one state to the other.
+-- What serving does by the turns of a pass, which stays the same one. The following holds for any session that leads
+-- from its state before to its state after. What the pass was told grew by one member for each request that was put to
+-- the office, in order. One turn for each of these leads from one state to the other.
 pub record ServesCaller (before : any.Progress HallPass) (left : Option (List ℕ)) (after : any.Progress HallPass)
     (left_now : Option (List ℕ)) (ended : Ended) : Type 0 where
   pub serves : ServesBy AskTurn before left after left_now ended

@@ -43,8 +43,8 @@ IsFrame bytes (Some want) rest =
 abbrev pub NeedsMore : List ℕ → Type 0
 NeedsMore bytes = (bytes ≡ []) ⊎ IsRequestRead bytes HeadRead.More
 
--- The frames of a connection. Bytes that are only the start of a request want nothing if the input ends with them, and
--- a response says whether the connection ends after it.
+-- The frames of a connection. Bytes that are only the start of a request want nothing if the input ends with them. A
+-- response says whether the connection ends after it.
 abbrev pub http_rules : Rules Asked Reply HttpEnd
 http_rules = record {
   whole = IsFrame;

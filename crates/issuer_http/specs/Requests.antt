@@ -12,8 +12,8 @@ answer_of bytes HeadRead.More = HttpRead.More
 answer_of bytes (HeadRead.Bad fault) = HttpRead.Bad fault
 answer_of bytes (HeadRead.Whole head) = HttpRead.One (asked_by_request bytes head) (request_size head) head.last
 
--- The answer reports what is read at the front of the bytes: a complete request; or a head that is refused; or that
--- more bytes are needed.
+-- The answer reports a complete request at the front of the bytes, or a head there that is refused, or that more bytes
+-- are needed.
 abbrev pub IsNextRequest : List ℕ → HttpRead → Type 0
 IsNextRequest bytes answer = (read : HeadRead) × IsRequestRead bytes read × (answer ≡ answer_of bytes read)
 

@@ -64,8 +64,8 @@ CompletesBy step ended before bytes after =
 
 -- ---- an office
 
--- The progress of serving: the office with what its keeper tells and the keeper's count, the moments that the clock has
--- given, and the bytes that were written. `None` means a device that doesn't tell it.
+-- The progress of serving has the office, with what its keeper tells and the keeper's count. It also has the moments
+-- that the clock has given, and the bytes that were written. `None` means a device that doesn't tell it.
 abbrev pub HttpProgress : Type 0
 HttpProgress = any.Progress CountedOffice
 

@@ -18,9 +18,10 @@ use std::alloc::Global;
 use std::sync::Wait;
 use std::thread::Threads;
 
-/// Serves one connection: reads requests from the link, has the caller put them to the office of its hall one after
-/// another, each in one turn, and writes the response to each before the next is put. For each request that is put to
-/// the office, the clock gives one moment, after the request's bytes were read. The pass is returned.
+/// Serves one connection: reads requests from the link, and has the caller put them to the office of its hall. The
+/// caller puts one after another, each in one turn. The response to each is written before the next is put. For each
+/// request that is put to the office, the clock gives one moment, after the request's bytes were read. The pass is
+/// returned.
 pub fn serve_connection<R: Threads + Wait + Sync, K: Keeper, G: Gate, L: Link, C: Clock>(
     rt: &R,
     alloc: Global,

@@ -18,8 +18,8 @@ use std::alloc::Global;
 pub enum HttpRead {
     /// No request is complete yet.
     More,
-    /// A complete request: what it asks, or the refusal that is its reply; the number of its bytes; and whether the
-    /// connection is to be closed after the answer.
+    /// A complete request: what it asks, or the refusal that is its reply, and the number of its bytes. `last` says
+    /// whether the connection is to be closed after the answer.
     One {
         asked: Asked,
         used: usize,

@@ -21,8 +21,8 @@ use std::thread::Threads;
 /// A connection ends when it has taken this many bytes. This project's profile.
 pub const MAX_INPUT: usize = 1_073_741_824;
 
-/// Serves one connection: reads requests from the link, puts them to the office one after another, and writes the
-/// response to each before the next is put. For each request that is put to the office, the clock gives one moment,
+/// Serves one connection: reads requests from the link, and puts them to the office one after another. The response to
+/// each is written before the next is put. For each request that is put to the office, the clock gives one moment,
 /// after the request's bytes were read.
 pub fn serve_alone<R: Threads + Sync, K: Keeper, L: Link, C: Clock>(
     rt: &R,

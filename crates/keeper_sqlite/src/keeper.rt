@@ -13,11 +13,12 @@ use std::marker::Model;
 
 /// A keeper over an SQLite database, by its tables `entry` and `cell2`. A store of form 1, whose cells are in the table
 /// `cell`, is moved to form 2 by the first call. The keeper tells its entries and cells, field by field, between its
-/// calls, while the database is open and its disk is clean, if the connection told them when the keeper adopted it.
-/// That means that it had no table yet, or tables of this keeper and nothing else, with rows of entries and of cells of
-/// one form alone. A call fails if the database couldn't be opened, has any other schema or neither form, or fails or
-/// refuses a statement. It also fails if a stored value doesn't fit its field, such as a kind above 255 or a negative
-/// number. Contracts see the connection, what it was when it was adopted, and the number of calls that have failed.
+/// calls, while the database is open and its disk is clean. It does so only if the connection told them when the keeper
+/// adopted it. Then the connection had no table yet, or tables of this keeper and nothing else. The rows in them were
+/// entries and cells of one form alone. A call fails if the database couldn't be opened, has any other schema or
+/// neither form, or fails or refuses a statement. It also fails if a stored value doesn't fit its field, such as a kind
+/// above 255 or a negative number. Contracts see the connection, what it was when it was adopted, and the number of
+/// calls that have failed.
 #[derive(Drop)]
 pub struct SqliteKeeper<S: Alter> {
     // `None` if the file couldn't be opened.

@@ -22,7 +22,7 @@ const MAKE_ENTRIES: &'static str = "CREATE TABLE IF NOT EXISTS entry (
 ) STRICT";
 
 // One row per cell of form 1, by its kind and its name. A second index has the cells in the order of the entries that
-// touched them last, so that the cells of a few entries are found without reading all.
+// touched them last. So the cells of a few entries are found without reading all.
 const MAKE_CELLS: &'static str = "CREATE TABLE IF NOT EXISTS cell (
   kind INTEGER NOT NULL,
   name TEXT NOT NULL,

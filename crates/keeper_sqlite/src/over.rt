@@ -297,8 +297,7 @@ pub fn entries<S: Alter>(
     }
 }
 
-// The cells that were last touched by an entry with a number greater than `after` and at most `upto`, in the order of
-// kinds and names.
+// The cells whose last entry has a number greater than `after` and at most `upto`, in the order of kinds and names.
 pub fn cells<S: Alter>(
     conn: &mut Connection<S>,
     alloc: Global,

@@ -56,8 +56,8 @@ pub fn read_entries<S: Alter>(
     conn.query_all(ENTRIES, &[number(after), number(upto)])
 }
 
-// The rows of the cells of form 2 that were last touched by an entry with a number greater than `after` and at most
-// `upto`, in the order of kinds and names.
+// The rows of the cells of form 2 whose last entry has a number greater than `after` and at most `upto`. They are in
+// the order of kinds and names.
 pub fn read_cells<S: Alter>(
     conn: &mut Connection<S>,
     after: u64,

@@ -37,8 +37,9 @@ Turns before (t ∷ members) after =
     (between : HallPass) × Turn before t.piece.request t.piece.moment t.piece.reply between
     × (between.told ≡ before.told ++ t ∷ []) × Turns between members after
 
--- These members are told of what was asked, at these moments, with these replies: one for each request that was put to
--- the office, in order, and none for a refusal by the reader or for an upload that ran out of memory while it was read.
+-- These members are told of what was asked, at these moments, with these replies. There is one member for each request
+-- that was put to the office, in order. There is none for a refusal by the reader, or for an upload that ran out of
+-- memory while it was read.
 abbrev pub AreToldOf : List Asked → List ℤ → List Reply → List (Member Told) → Type 0
 AreToldOf [] moments replies members = (moments ≡ []) × (members ≡ [])
 AreToldOf (asked ∷ asks) moments [] members = ⊥

@@ -7,7 +7,7 @@ use Rattle.turnstile.specs.Lists.{IsPrefix}
 use Rattle.turnstile.specs.Passes.{AreApart, AreBetween, IsMadeOnce}
 use Rattle.lei_hall.specs.Passes.{HallPass, IsNewPlace, faults_told}
 
--- A hall was opened with one office, when its keeper's count of faults had the first value, and closed with these
+-- A hall was opened with one office, when its keeper's count of faults had the first value. It was closed with these
 -- passes, which left the other office and the other value.
 pub record Closes (opened : OfficeState) (from : ℕ) (passes : List HallPass) (closed : OfficeState) (to : ℕ)
     : Type 0 where

@@ -17,8 +17,8 @@ use Rattle.lei_hall.specs.Passes.{HallPass, seen_by}
 abbrev pub office_table : OfficeState → Table
 office_table office = after office.limits office.history
 
--- This was fetched from an office for keys, if memory didn't run out: the first 50,000 of the cells that are fetched
--- for them, and no others.
+-- If memory didn't run out, this was fetched from an office for keys. It has the first 50,000 of the cells that are
+-- fetched for them, and no others.
 abbrev pub Fetches : OfficeState → List CellKey → Result Fetched NoMemory → Type 0
 Fetches office keys fetched = IfOk fetched (λ f. HasJust (fetched_view f) (cells_of (office_table office))
     (take 50_000 (fetched_keys (cells_of (office_table office)) keys)))

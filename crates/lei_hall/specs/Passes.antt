@@ -49,8 +49,8 @@ limits_of numbers = record {
 
 -- ---- passes
 
--- A pass: the table that it is for, its number, the history that it has seen, the places of its own entries, what it
--- was told, and the numbers that stay, which start with the limits of the office.
+-- A pass is for one table and has a number. The other parts are the history that it has seen, the places of its own
+-- entries, what it was told, and the numbers that stay. These numbers start with the limits of the office.
 abbrev pub HallPass : Type 0
 HallPass = PassView KeptEntry Told
 
@@ -62,8 +62,8 @@ seen_by pass = office_of (limits_of pass.stays) pass.seen
 abbrev pub told : Request → ℤ → Reply → Told
 told request moment reply = record { request = request; moment = moment; reply = reply }
 
--- What a pass is told in a turn: request, moment and reply, the length of the history before the turn, and the keeper's
--- counts of faults at the start and at the end of the turn.
+-- What a pass is told in a turn: request, moment and reply, and the length of the history before the turn. It is also
+-- told the keeper's counts of faults at the start and at the end of the turn.
 abbrev pub member : Request → ℤ → Reply → ℕ → ℕ → ℕ → Member Told
 member request moment reply at from to =
     record { piece = told request moment reply; at = at; from = from; to = to }

@@ -31,8 +31,8 @@ pub record Turn (before : HallPass) (request : Request) (moment : ℤ) (reply : 
   pub told : after.told ≡ before.told ++ member request moment reply (length history) from to ∷ []
   -- the place after the history is one of the pass's own exactly if the turn added an entry
   pub mine : after.mine ≡ mine_after 1 (length history) (length after.seen) before.mine
-  -- the count at the start is at least every count that the pass was told before, and the count at the end is at least
-  -- the count at the start; if the reply is KEEPER_FAULT, it rose in the turn, or is at its greatest value
+  -- The count at the start is at least every count that the pass was told before. The count at the end is at least the
+  -- count at the start. If the reply is KEEPER_FAULT, the count rose in the turn, or is at its greatest value.
   pub later : All (λ t. t.to ≤ from) before.told
   pub faults : from ≤ to
   pub fault : RoseBy (keeper_faults (reply ∷ [])) from to

@@ -70,7 +70,8 @@ pub fn put_request<'a, K: Keeper, R: Threads + Sync>(
     requires { HasNumberInRange request.now }
     ensures asked { (result.request.now ≡ request.now) × (result.moment ≡ moment) }
     ensures opened { slot.new.opened ≡ slot.old.opened }
-    ensures answers { AnswersRequest K.faults slot.old.office request.now moment result.reply slot.new.office }
+    ensures answers { AnswersRequest K.faults slot.old.office request.now moment
+        result.reply slot.new.office }
 {
     let reply = slot.office.answer(rt, request, moment);
     Answer {

@@ -15,8 +15,8 @@ use Rattle.lei_mirror.specs.declared.tables.SheetCopy.{SheetCopy}
 use Rattle.lei_mirror.specs.declared.tables.Tables.{Tables}
 use Rattle.lei_mirror.specs.Packets.{IsPacket, is_copy_of, is_delta_to, is_like}
 
--- A mirror: the tables that it shows, all of one publication, whose number is 0 before the first one; and the packets
--- of later publications that it keeps, in order of arrival.
+-- A mirror: the tables that it shows, and the packets of later publications that it keeps, in order of arrival. The
+-- tables are all of one publication, whose number is 0 before the first one.
 pub record MirrorState : Type 0 where
   pub tables : Tables
   pub kept : List Packet
@@ -60,8 +60,8 @@ with_packet state packet = record { tables = state.tables; kept = state.kept ++ 
 
 -- ---- from one publication to a later one
 
--- The packet that brings a sheet from the publication that is shown to another one: its copy, or else the first delta
--- to it from the shown publication or from an earlier one.
+-- The packet that brings a sheet from the publication that is shown to another one. This is the other one's copy, or
+-- else the first delta to it from the shown publication or from an earlier one.
 abbrev pub packet_for : ℕ → List Packet → ℕ → Sheet → Option Packet
 packet_for shown kept number sheet =
     option_or (find (is_copy_of sheet number) kept) (find (is_delta_to sheet number shown) kept)
@@ -76,8 +76,8 @@ pub record IsGreatestReady (shown : ℕ) (kept : List Packet) (number : ℕ) : T
   pub ready : IsReadyToShow shown kept number
   pub greatest : (other : ℕ) → IsReadyToShow shown kept other → other ≤ number
 
--- What is shown of a sheet after a packet with this head and this body: the rows of a copy, or the rows that were
--- shown, patched by a delta.
+-- What is shown of a sheet after a packet with this head and this body. These are the rows of a copy, or the rows that
+-- were shown, patched by a delta.
 abbrev pub copy_with : SheetCopy → Head → PacketBody → SheetCopy
 copy_with old head (PacketBody.Copy rows) = record { head = Some head; rows = rows }
 copy_with old head (PacketBody.Delta changes) = record {
@@ -126,7 +126,7 @@ pub record Settles (state settled : MirrorState) : Type 0 where
 
 -- ---- how a packet changes a mirror
 
--- A packet is taken: either it changes nothing, or there is room for it, it is kept, and the mirror moves as far as it
+-- A packet is taken. Either it changes nothing, or there is room for it, it is kept, and the mirror moves as far as it
 -- can.
 pub record TakesPacket (state : MirrorState) (packet : Packet) (taken : MirrorState) : Type 0 where
   pub past : is_past state packet ≡ true → taken ≡ state

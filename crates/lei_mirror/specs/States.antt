@@ -33,8 +33,8 @@ IsSoundBody sheet head (PacketBody.Delta changes) = IsDeltaHead head × AreChang
 abbrev pub IsSoundPacket : Packet → Type 0
 IsSoundPacket packet = IsSoundBody packet.sheet packet.head packet.body
 
--- The packets that are kept: sound ones, each of a publication after the one that is shown, at most 64 of them, with at
--- most 536,870,912 bytes in total.
+-- The packets that are kept: sound ones, each of a publication after the one that is shown. There are at most 64 of
+-- them, with at most 536,870,912 bytes in total.
 pub record AreKeptPackets (shown : ℕ) (kept : List Packet) : Type 0 where
   pub sound : All IsSoundPacket kept
   pub after : All (λ packet. shown < packet.head.publication) kept

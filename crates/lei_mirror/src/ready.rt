@@ -8,8 +8,8 @@ ghost use Rattle.lei_mirror.specs.Settling.{FindsGreatest, packet_now};
 use crate::kept_packet::KeptPacket;
 use copy_csv::Sheet;
 
-/// The packet that brings a sheet to a publication: its copy, or else the first delta to it from a publication that
-/// isn't after the one that is shown.
+/// The packet that brings a sheet to a publication. This is the publication's copy, or else the first delta to it from
+/// one that isn't after the one that is shown.
 pub fn packet_for(shown: u32, kept: &[KeptPacket], number: u32, sheet: Sheet) -> Option<&KeptPacket>
     ensures { packet_now result ≡ spec.packet_for shown kept.now number sheet }
 {

@@ -127,7 +127,7 @@ impl<K: Keeper> Office<K> {
     }
 
     /// Answers a request that came at this moment, by one step of the history. An entry that is added has this moment,
-    /// or that of the last entry if that is later, and is kept before the request is answered. A repeat of an upload
+    /// or that of the last entry if that is later. It is kept before the request is answered. A repeat of an upload
     /// gets the answer that was kept.
     pub fn answer<R: Threads + Sync>(&mut self, rt: &R, request: &Request, moment: Moment) -> Reply
         requires { HasNumberInRange request.now }

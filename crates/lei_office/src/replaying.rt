@@ -126,7 +126,7 @@ fn reply_words(alloc: Global, reply: Reply) -> Result<Bytes, NoMemory>
 }
 
 // The request that a stored entry was taken for, with its moment. There is none if no request has the entry's values,
-// if its moment is out of range, or if its rules may not follow those of earlier entries.
+// or if its moment is out of range. Nor is there one if its rules may not follow those of the entry before it.
 #[tactic(auto, unfolding(register_history::specs::Damage::stored_request))]
 fn asked_by(
     alloc: Global,

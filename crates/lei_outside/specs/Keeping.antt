@@ -16,8 +16,8 @@ use Rattle.lei_outside.specs.declared.keeper.KeptCell.{KeptCell}
 abbrev pub CellPlace : Type 0
 CellPlace = List ℕ
 
--- What is kept of a cell: the number of the entry that touched it last, and the text of its row, or `None` after a
--- withdrawal.
+-- What is kept of a cell: the number of the entry that touched it last, and the text of its row. After a withdrawal the
+-- text is `None`.
 pub record CellContent : Type 0 where
   pub touched : ℕ
   pub row : Option (List ℕ)
@@ -117,8 +117,8 @@ abbrev pub HaveOwnPlaces : List KeptCell → Type 0
 HaveOwnPlaces [] = ⊤
 HaveOwnPlaces (cell ∷ list) = AllByRecursion (λ other. cell_place other ≢ cell_place cell) list × HaveOwnPlaces list
 
--- A batch that may be committed: the number of its entry is at most 9,223,372,036,854,775,807, which a store has room
--- for; its cells are cells of this entry, each in its own place; and the texts that name something are ASCII.
+-- A batch that may be committed. The number of its entry is at most 9,223,372,036,854,775,807, which a store has room
+-- for. Its cells are cells of this entry, each in its own place. The texts that name something are ASCII.
 pub record IsBatch (batch : Batch) : Type 0 where
   pub number : batch.entry.seq ≤ 9223372036854775807
   pub office : IsAscii batch.entry.office

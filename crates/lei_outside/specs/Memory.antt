@@ -8,8 +8,8 @@ use Rattle.lei_outside.specs.declared.entry.KeptEntry.{KeptEntry}
 use Rattle.lei_outside.specs.declared.keeper.Batch.{Batch}
 use Rattle.lei_outside.specs.declared.keeper.KeptCell.{KeptCell}
 
--- A source in memory: the bytes that it has left, the greatest number of bytes that a read gives, the numbers of the
--- reads that fail, and how many reads there were and have failed.
+-- A source in memory: the bytes that it has left, and the greatest number of bytes that a read gives. It also has the
+-- numbers of the reads that fail, and how many reads there were and have failed.
 pub record SourceState : Type 0 where
   pub left : List ℕ
   pub most : ℕ
@@ -17,8 +17,8 @@ pub record SourceState : Type 0 where
   pub calls : ℕ
   pub faults : ℕ
 
--- A sink in memory: the bytes that were written, the greatest number of bytes that a write takes, the numbers of the
--- writes that fail, and how many writes there were and have failed.
+-- A sink in memory: the bytes that were written, and the greatest number of bytes that a write takes. It also has the
+-- numbers of the writes that fail, and how many writes there were and have failed.
 pub record SinkState : Type 0 where
   pub written : List ℕ
   pub most : ℕ
@@ -60,7 +60,7 @@ tables_of keeper = record { entries = keeper.entries; cells = put_cells empty ke
 abbrev pub AreOfEntries : List KeptCell → Type 0
 AreOfEntries cells = AllByRecursion (λ cell. IsEntryNumber cell.touched) cells
 
--- Entries and cells that a keeper may have: the numbers of the entries are at least 1 and rise, and each cell was
+-- Entries and cells that a keeper may have. The numbers of the entries are at least 1 and rise, and each cell was
 -- touched by an entry.
 abbrev pub MayBeKept : List KeptEntry → List KeptCell → Type 0
 MayBeKept entries cells = RiseFrom 0 entries × AreOfEntries cells

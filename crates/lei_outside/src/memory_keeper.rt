@@ -118,8 +118,8 @@ fn copies(alloc: Global, cells: &[KeptCell]) -> Result<Vec<KeptCell>, NoMemory>
     Ok(list)
 }
 
-/// Whether a keeper may have these entries and cells: the numbers of the entries are at least 1 and rise, and those of
-/// the cells are at least 1.
+/// Whether a keeper may have these entries and cells. The numbers of the entries must be at least 1 and rise, and those
+/// of the cells must be at least 1.
 pub fn may_be_kept(entries: &[KeptEntry], cells: &[KeptCell]) -> bool
     ensures value { IsTrue result ↔ MayBeKept entries.now cells.now }
     ensures kept { IsTrue result → AreKept (tables_of (record { entries = entries.now; cells = cells.now })) }

@@ -135,7 +135,10 @@ impl Sink for ByteSink {
               calls = count_up self.old.calls;
             }) }
         ensures fault { IsErrOf result SinkFault.Failed →
-            self.new ≡ record self.old { calls = count_up self.old.calls; faults = count_up self.old.faults } }
+            self.new ≡ record self.old {
+              calls = count_up self.old.calls;
+              faults = count_up self.old.faults;
+            } }
         ensures no_memory { IsErrOf result SinkFault.NoMemory →
             self.new ≡ record self.old { calls = count_up self.old.calls } }
     {

@@ -142,7 +142,10 @@ impl Source for ByteSource {
             self.new ≡ record self.old { left = drop n self.old.left; calls = count_up self.old.calls }) }
         ensures behind { IfOk result (λ n. drop n buffer.new ≡ drop n buffer.old) }
         ensures err { OnErr result
-            (self.new ≡ record self.old { calls = count_up self.old.calls; faults = count_up self.old.faults }) }
+            (self.new ≡ record self.old {
+              calls = count_up self.old.calls;
+              faults = count_up self.old.faults;
+            }) }
         ensures untouched { OnErr result (buffer.new ≡ buffer.old) }
     {
         if self.calls.next_fails() {

@@ -149,9 +149,9 @@ holds authority id row = is_live row && is_authority_key authority id (akey row)
 
 -- ---- views
 
--- What a view answers: for an LEI the record; for an authority key the LEI of the live record that has it; for a start,
--- a type and an end the relationship; for a start and a type the end of the active relationship; and for an LEI and a
--- category whether there is an exception.
+-- What a view answers. For an LEI it is the record. For an authority key it is the LEI of the live record that has it.
+-- For a start, a type and an end it is the relationship. For a start and a type it is the end of the active
+-- relationship. For an LEI and a category it is whether there is an exception.
 pub record Cells : Type 0 where
   pub record_cell : Lei → Seen RecCell
   pub holder : Text → Text → Seen Lei

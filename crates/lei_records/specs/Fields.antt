@@ -1,6 +1,7 @@
--- The fields of the three kinds of items in order of place: the name of each, what it holds, and when it is needed. The
--- names are those of the columns of a golden copy (level 1, level 2 and reporting exceptions), except for
--- Register.TransferTo, those of an event and Action. What they hold and when they are needed is this project's profile.
+-- The fields of the three kinds of items in order of place: the name of each, what it holds, and when it is needed. Most
+-- names are those of the columns of a golden copy (level 1, level 2 and reporting exceptions). The others are
+-- Register.TransferTo, those of an event, and Action. What the fields hold and when they are needed is this project's
+-- profile.
 use Rattle.std.specs.Prelude.{ℕ, ◌-◌, List, [], ◌∷◌, map, take, slice_index_or, Bool, true, false, not, ◌||◌, codes}
 use Rattle.std.specs.Borrow.{Bor}
 use Rattle.std.specs.Str.{bytes_eq}

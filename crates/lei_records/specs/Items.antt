@@ -1,5 +1,5 @@
--- Whether an item that was sent is a record, a relationship or an exception: the checks of its fields, each a statement
--- about them, and the row that it has. This project's profile.
+-- Whether an item that was sent is a record, a relationship or an exception. Each check of its fields is a statement
+-- about them. Here is also the row that an item has. This project's profile.
 use Rattle.std.specs.Prelude.{ℕ, ◌%◌, List, map, filter, codes, Bool, not, ◌&&◌, ◌==◌, if◌then◌else◌, find, Option, Some, None, option_map, unwrap_or}
 use Rattle.std.specs.Option.{option_or}
 use Rattle.std.specs.List.{list_any}
@@ -102,7 +102,7 @@ failed_check rules kind pairs = option_or (option_map (failed_field 1) (unknown_
 
 -- ---- what an item is
 
--- A text of a shape in its form for a row: a moment is in printed form, and any other text is as it was sent.
+-- A text of a shape in its form for a row. A moment is in printed form, and any other text is as it was sent.
 abbrev pub text_in_row : Shape → Text → Text
 text_in_row Shape.Moment text = if is_absent text then text else unwrap_or
     (option_map moment_text (read_moment text)) text

@@ -38,8 +38,8 @@ pub record AreCodes (text : Text) : Type 0 where
   pub valid : All IsValid (between_spaces text)
   pub different : IsTrue (are_different (between_spaces text))
 
--- The row is that of a record. Each part of it that is more than a text can be read: an LEI by its check digits, a
--- value by its list, and a moment by its printed form. A part that isn't needed may be absent.
+-- The row is that of a record. Each part of it that is more than a text can be read. An LEI is read by its check
+-- digits, a value by its list, and a moment by its printed form. A part that isn't needed may be absent.
 pub record IsRecordRow (row : Row) : Type 0 where
   pub places : length row ≡ record_places
   pub lei : IsValid (text_at row lei_place)

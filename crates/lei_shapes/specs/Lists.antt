@@ -1,4 +1,4 @@
--- The lists of values. Each has one table with the text of every value, which is compared byte for byte, as in the
+-- The lists of values. Each has one table with the text of every value. A text is compared byte for byte, as in the
 -- Common Data File formats of the Global LEI System. What a text reads as follows from the table.
 use Rattle.std.specs.Prelude.{◌≡◌, ◌≢◌, List, [], ◌∷◌, Option, Some, MatchOption, find, bytes_eq, codes}
 use Rattle.lei_code.specs.Texts.{Text}

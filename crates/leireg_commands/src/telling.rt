@@ -3,8 +3,8 @@ use crate::help::{advice, cause};
 use program_words::help_of;
 use register_words::ExitStatus;
 
-/// Reports a status other than `Ok`: its word, what happened, and what to do, or how the command named by the first of
-/// these words is called.
+/// Reports a status other than `Ok`: its word, what happened, and what to do. If the status is `Usage`, it reports how
+/// the command named by the first of these words is called, instead of what to do.
 pub fn tell(host: &HostRuntime, status: u8, words: &[String]) {
     match ExitStatus::of(status) {
         Some(ExitStatus::Ok) | None => {}

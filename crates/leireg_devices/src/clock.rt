@@ -10,7 +10,8 @@ use std::time::{SystemTime, UNIX_EPOCH};
 const LAST: u64 = 253_370_764_799;
 
 /// The clock of the machine, in whole seconds. If it can't be read, or is set before 1970 or after the range of clocks,
-/// it gives its last moment again, or 0 if it has given none yet. It tells nothing of what it gave.
+/// it gives its last moment again. If there is no last moment yet, it gives 0 in this case. It tells nothing of what it
+/// gave.
 #[derive(Drop)]
 pub struct SystemClock<'a, R> {
     rt: &'a R,

@@ -1,5 +1,5 @@
-//! The standard streams, files and the clock of the machine, as the devices of a run, and a keeper and a sink that
-//! report to a person how far a long task is.
+//! The standard streams, files and the clock of the machine, as the devices of a run. There are also a keeper and a
+//! sink that report to a person how far a long task is.
 #![tactic(auto)]
 
 mod clock;

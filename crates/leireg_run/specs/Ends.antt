@@ -227,9 +227,9 @@ pub record IsComplete (may : Option KeptTables → Type 0) (bytes : List ℕ) (b
         → replies ≡ replies_to first (asks_of_lines (lines bytes)) moments
 
 -- If no source and no sink fails and memory doesn't run out, everything is done. An input of lines that is told and
--- short enough is answered in full. The exceptions are that a call of the keeper failed while its store was opened, or
--- that the store is damaged, which is reported in full. The line of a text is written, with status 0 or 2. Files that
--- are told and short enough are answered, with status 0 or 2. A register is made up and its summary is written, with
+-- short enough is answered in full. There are two exceptions. A call of the keeper failed while its store was opened,
+-- or the store is damaged, which is reported in full. The line of a text is written, with status 0 or 2. Files that are
+-- told and short enough are answered, with status 0 or 2. A register is made up and its summary is written, with
 -- status 0.
 abbrev pub CompletesRun : (Option KeptTables → Type 0) → Invocation → Outside → Outside → Option (List ℕ)
     → Option (List ℕ) → ℕ → Type 0

@@ -7,8 +7,8 @@ use Rattle.register_history.specs.Legal.{OfficeSession}
 use Rattle.line_reading.specs.LineRuns.{AreTextsOf}
 use Rattle.line_reading.specs.Replies.{reply_texts}
 
--- These replies answer what was asked, in order, at these moments, from the first office to the second, and these bytes
--- are their texts, in order.
+-- These replies answer what was asked, in order, at these moments, from the first office to the second. These bytes are
+-- their texts, in order.
 pub record AnswersInBytes (old : OfficeState) (asks : List Asked) (moments : List ℤ) (replies : List Reply)
     (written : List ℕ)
     (new : OfficeState) : Type 0 where

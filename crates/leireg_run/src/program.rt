@@ -30,11 +30,12 @@ use request_loop::{Duplex, Intake, serve};
 use std::alloc::Global;
 use std::thread::Threads;
 
-// What a command runs on: what starts its threads, and where its memory comes from.
+// A command with what it runs on: what starts its threads, and where its memory comes from.
 #[derive(Drop)]
-struct Machine<'a, R> {
+struct Job<'a, R> {
     rt: &'a R,
     alloc: Global,
+    command: Command<'a>,
 }
 
 /// Does what the words ask for, which are the program's words without its name. Returns the status that the run ends
@@ -94,30 +95,29 @@ pub fn run<R: Threads + Sync, S: Source, T: Source, W: Sink, K: Keeper, C: Clock
         Err(WordsFault::Usage) => return (ExitStatus::Usage.number(), keeper),
         Err(WordsFault::NoMemory) => return (ExitStatus::NoMemory.number(), keeper),
     };
-    let machine = Machine { rt, alloc };
-    match run_command(&machine, &command, input, second, out, keeper, clock) {
+    let job = Job { rt, alloc, command };
+    match run_command(&job, input, second, out, keeper, clock) {
         (Ok(()), keeper) => (ExitStatus::Ok.number(), keeper),
         (Err(stop), keeper) => (stop.status(), keeper),
     }
 }
 
 fn run_command<R: Threads + Sync, S: Source, T: Source, W: Sink, K: Keeper, C: Clock>(
-    machine: &Machine<'_, R>,
-    command: &Command<'_>,
+    job: &Job<'_, R>,
     input: &mut S,
     second: &mut T,
     out: &mut W,
     keeper: K,
     clock: &mut C,
 ) -> (Result<(), Stop>, K)
-    requires range { IsInRange command.now }
-    requires run { unless_serving (invocation_of command.now) ≡ Some (invocation_of command.now) }
-    ensures unread { reads_input (invocation_of command.now) ≡ false → input.new ≡ input.old }
-    ensures second_unread { reads_second (invocation_of command.now) ≡ false → second.new ≡ second.old }
-    ensures unasked { ¬ (invocation_of command.now ≡ to_answer_lines) → clock.new ≡ clock.old }
-    ensures unkept { ¬ (invocation_of command.now ≡ to_answer_lines) → result.1 ≡ keeper }
+    requires range { IsInRange job.now.command }
+    requires run { unless_serving (invocation_of job.now.command) ≡ Some (invocation_of job.now.command) }
+    ensures unread { reads_input (invocation_of job.now.command) ≡ false → input.new ≡ input.old }
+    ensures second_unread { reads_second (invocation_of job.now.command) ≡ false → second.new ≡ second.old }
+    ensures unasked { ¬ (invocation_of job.now.command ≡ to_answer_lines) → clock.new ≡ clock.old }
+    ensures unkept { ¬ (invocation_of job.now.command ≡ to_answer_lines) → result.1 ≡ keeper }
     ensures unopened { IsUnopened (end_status result.0) → (input.new ≡ input.old) × (clock.new ≡ clock.old) }
-    ensures does { Does (MayTell K.tables) (invocation_of command.now)
+    ensures does { Does (MayTell K.tables) (invocation_of job.now.command)
         (outside (S.left input.old) (C.given clock.old) (W.written out.old) (K.tables keeper)
         (K.faults keeper))
         (outside (S.left input.new) (C.given clock.new) (W.written out.new) (K.tables result.1)
@@ -135,9 +135,9 @@ fn run_command<R: Threads + Sync, S: Source, T: Source, W: Sink, K: Keeper, C: C
         (K.faults result.1))
         (Ok (tt {0})) }
 {
-    let rt = machine.rt;
-    let alloc = machine.alloc;
-    match command {
+    let rt = job.rt;
+    let alloc = job.alloc;
+    match &job.command {
         Command::Lines => run_lines(rt, alloc, input, out, keeper, clock),
         Command::Serve => unreachable!(),
         Command::Check(code) => (check(code, out), keeper),

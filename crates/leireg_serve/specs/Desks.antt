@@ -28,8 +28,8 @@ line_tells left written read_faults write_faults = record {
   write_faults = write_faults;
 }
 
--- What a desk tells at one time: the lines of its door that are to come and those that came back, whether a line is
--- out, how many calls of the door have failed, and the moments that the clock has given.
+-- What a desk tells at one time. Its door tells the lines that are to come and those that came back. It also tells
+-- whether a line is out, and how many calls of the door have failed. The clock tells the moments that it has given.
 pub record DeskState (L : Type 0) : Type 0 where
   pub to_come : Option (List L)
   pub came_back : Option (List L)
@@ -101,8 +101,8 @@ TakesLinesBack (Some old) (Some new) lines = new ≡ old ++ lines
 abbrev pub IsNoneToCome : {L : Type 0} → Option (List L) → Type 0
 IsNoneToCome told = IfSome told (λ lines. lines ≡ [])
 
--- The lines that a door gave were served one after another, by the turns of one pass, and each came back to the door,
--- in order; none is out. One turn for each member that the pass was told leads, in order, from its state before to its
+-- The lines that a door gave were served one after another, by the turns of one pass. Each came back to the door, in
+-- order, and none is out. One turn for each member that the pass was told leads, in order, from its state before to its
 -- state after.
 pub record ServesDesk {L : Type 0} (tells : LineTells L) (before : HallPass) (desk : DeskState L)
     (after : HallPass) (desk_now : DeskState L) (end : DeskEnd) : Type 0 where
@@ -126,8 +126,8 @@ pub record ServedDesk (L : Type 0) : Type 0 where
   pub after : DeskState L
   pub end : DeskEnd
 
--- The lines of each desk were served by the pass with its number, which was new: it had seen this history, and these
--- are its numbers that stay. The passes have consecutive numbers starting at k.
+-- The lines of each desk were served by the pass with its number, which was new. The pass had seen this history, and
+-- these are its numbers that stay. The passes have consecutive numbers starting at k.
 abbrev pub ServesDesks : {L : Type 0} → LineTells L → (ℕ → HallPass) → ℕ → List (ServedDesk L) → Type 0
 ServesDesks tells new k [] = Unit {0}
 ServesDesks tells new k (served ∷ others) =

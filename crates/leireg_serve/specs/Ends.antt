@@ -18,8 +18,8 @@ use Rattle.leireg_run.specs.Ends.{Opens}
 use Rattle.leireg_serve.specs.Desks.{DeskState, LineTells, ServedDesk, ServesDesks}
 use Rattle.leireg_serve.specs.declared.desk.DeskEnd.{DeskEnd}
 
--- What the keeper and the desks tell at one time: what is kept, how many calls of the keeper have failed, and what each
--- desk tells.
+-- What the keeper and the desks tell at one time: what is kept, how many calls of the keeper failed, and what each desk
+-- tells.
 pub record DesksOutside (L : Type 0) : Type 0 where
   pub kept : Option KeptTables
   pub faults : ℕ

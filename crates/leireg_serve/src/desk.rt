@@ -42,7 +42,8 @@ pub fn serve_desk<R: Threads + Wait + Sync, K: Keeper, D: Door, C: Clock, G: Gat
 ) -> (Pass, DeskEnd)
     requires routes { router.now ≡ routes }
     requires door { D.out desk.old.door ≡ false }
-    ensures { ServesDesk (line_tells D.Line.left D.Line.written D.Line.read_faults D.Line.write_faults) caller.entry
+    ensures { ServesDesk
+        (line_tells D.Line.left D.Line.written D.Line.read_faults D.Line.write_faults) caller.entry
         (desk_state D.to_come D.came_back D.out D.faults C.given desk.old) result.0
         (desk_state D.to_come D.came_back D.out D.faults C.given desk.new) result.1 }
 {

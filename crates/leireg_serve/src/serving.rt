@@ -23,9 +23,10 @@ use std::sync::Wait;
 use std::thread::Threads;
 
 /// Serves the register that a keeper has, if the words ask for it. Each desk has a worker, and all workers serve at the
-/// same time, each the lines of its door, one after another, until the door is closed or fails. Returns the exit
-/// status, and the keeper and the desks, in order. It writes nothing but what goes to the lines. Uploads pass the gate
-/// before their turns. All memory that workers need, apart from what requests take, is allocated before they start.
+/// same time. Each worker serves the lines of its door, one after another, until the door is closed or fails. Returns
+/// the exit status, and the keeper and the desks, in order. It writes nothing but what goes to the lines. Uploads pass
+/// the gate before their turns. All memory that workers need, apart from what requests take, is allocated before they
+/// start.
 pub fn serve<
     R: Threads + Wait + Sync,
     K: Keeper + Send,

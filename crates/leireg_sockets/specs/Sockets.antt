@@ -9,8 +9,8 @@ pub record StreamState (S : Type 0) : Type 0 where
   pub read_faults : ℕ
   pub write_faults : ℕ
 
--- A door over a listener: whether there is one, how many lines it may still give, whether a line is out, and how many
--- calls have failed.
+-- A door: whether it has a listener, how many lines it may still give, whether a line is out, and how many calls have
+-- failed.
 pub record ListenerState : Type 0 where
   pub listens : Bool
   pub to_give : ℕ

@@ -15,8 +15,8 @@ const BLOCK: usize = 16_384;
 
 /// Closes a connection so that its peer gets what was written. If the connection were closed while bytes of the peer
 /// are unread, the system would reset it, and the peer would lose the last reply. So nothing more is sent. What the
-/// peer still sends is read and dropped until the peer closes or is silent for 200 milliseconds, for at most this time
-/// and at most 8 MiB.
+/// peer still sends is read and dropped until the peer closes or is silent for 200 milliseconds. This ends after `time`
+/// or after 8 MiB at the latest.
 pub fn close<R: Clock>(rt: &R, mut stream: TcpStream, time: Duration) {
     let Ok(begin) = Instant::now(rt) else {
         return;
@@ -37,8 +37,8 @@ pub fn close<R: Clock>(rt: &R, mut stream: TcpStream, time: Duration) {
     }
 }
 
-// How long the next read may wait within a time that started at this moment, or `None` if it has passed or the clock
-// can't be read.
+// How long the next read may wait within a time that started at this moment. It is `None` if this time has passed or
+// the clock can't be read.
 fn wait_left<R: Clock>(rt: &R, begin: Instant, time: Duration) -> Option<Duration> {
     let passed = begin.elapsed(rt).ok()?;
     let left = time.checked_sub(passed)?;

@@ -17,8 +17,8 @@ use std::alloc::Global;
 pub enum NoEnd {}
 
 /// Cuts an input into lines. Each line that asks a request is a frame of its own. Lines that ask nothing or are refused
-/// are taken together, as far as they are held, and the replies to them wait to be sent together. A line that is too
-/// long isn't held.
+/// are taken together, as far as they are held. The replies to them wait to be sent together. A line that is too long
+/// isn't held.
 #[derive(Drop)]
 pub struct LineFraming {
     pub alloc: Global,

@@ -25,8 +25,8 @@ pub fn refusal_line(refusal: Refusal) -> Option<&'static [u8]>
     }
 }
 
-/// Writes a reply, in one piece if it fits in a block. If its text is a file, the status code is followed by the number
-/// of the text's bytes, and the text starts in the next line.
+/// Writes a reply, in one piece if it fits in a block. If its text is a file, the number of the text's bytes follows
+/// the status code, and the text starts in the next line.
 pub fn send_reply<L: Wire>(
     buffer: &mut WriteBuffer,
     link: &mut L,

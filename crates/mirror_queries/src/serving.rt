@@ -31,8 +31,8 @@ impl Clock for UnaskedClock {
     }
 }
 
-/// Serves one session of a mirror: reads lines from the wire, with the packets that they announce, and writes the reply
-/// to each query before it answers the next one.
+/// Serves one session of a mirror. It reads lines from the wire, with the packets that they announce, and writes the
+/// reply to each query before it answers the next one.
 pub fn serve_mirror<R, W: Wire>(
     rt: &R,
     intake: Intake,

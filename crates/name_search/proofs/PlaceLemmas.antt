@@ -10,7 +10,7 @@ use Rattle.std.proofs.lemmas.List.{get_or_default}
 use Rattle.lei_code.specs.Texts.{Text}
 use Rattle.name_search.specs.NameTables.{Name}
 use Rattle.name_search.specs.Keys.{text_cmp}
-use Rattle.name_search.specs.Places.{IsAbove, IsBelow, IsHere}
+use Rattle.name_search.specs.Places.{PrecedesNames, FollowsNames, IsHere}
 use Rattle.name_search.proofs.WalkLemmas.{first_true, less, second_true, text_same}
 
 ascends : (names : List Name) → is_sorted text_cmp names ≡ true → T (is_sorted text_cmp names)
@@ -43,7 +43,7 @@ back j k gt = nat_list_cmp_total.antisymm k j ∙ ap ordering_reverse gt
 
 -- a key before the one at a place is before all from there on
 pub above_from : (names : List Name) (key : Text) (i : ℕ) (name : Name) → is_sorted text_cmp names ≡ true → i < length names
-    → name ≡ get_or names i name → text_cmp key name.0 ≡ Ordering.Less → IsAbove names key i
+    → name ≡ get_or names i name → text_cmp key name.0 ≡ Ordering.Less → PrecedesNames names key i
 above_from names key i name sorted within here lt k d from inside = by (ltb i k) refl
   where
     at : text_cmp key (get_or names i d).0 ≡ Ordering.Less
@@ -59,7 +59,7 @@ above_from names key i name sorted within here lt k d from inside = by (ltb i k)
 
 -- a key after the one at a place is after all up to it
 pub below_to : (names : List Name) (key : Text) (i : ℕ) (name : Name) → is_sorted text_cmp names ≡ true → i < length names
-    → name ≡ get_or names i name → text_cmp key name.0 ≡ Ordering.Greater → IsBelow names key (i + 1)
+    → name ≡ get_or names i name → text_cmp key name.0 ≡ Ordering.Greater → FollowsNames names key (i + 1)
 below_to names key i name sorted within here gt k d before = by (ltb k i) refl
   where
     at : text_cmp key (get_or names i d).0 ≡ Ordering.Greater
@@ -85,7 +85,7 @@ key_here names key i d name within here tie = text_same key name.0 tie ∙ ap (�
 
 -- comes after those before it
 pub below_here : (names : List Name) (key : Text) (i : ℕ) (name : Name) → is_sorted text_cmp names ≡ true → i < length names
-    → name ≡ get_or names i name → text_cmp key name.0 ≡ Ordering.Equal → IsBelow names key i
+    → name ≡ get_or names i name → text_cmp key name.0 ≡ Ordering.Equal → FollowsNames names key i
 below_here names key i name sorted within here tie k d before =
     turned (get_or names k d).0 key
     (ap (text_cmp (get_or names k d).0) (key_here names key i d name within here tie)
@@ -93,17 +93,17 @@ below_here names key i name sorted within here tie k d before =
 
 -- and before those after it
 pub above_here : (names : List Name) (key : Text) (i : ℕ) (name : Name) → is_sorted text_cmp names ≡ true → i < length names
-    → name ≡ get_or names i name → text_cmp key name.0 ≡ Ordering.Equal → IsAbove names key (i + 1)
+    → name ≡ get_or names i name → text_cmp key name.0 ≡ Ordering.Equal → PrecedesNames names key (i + 1)
 above_here names key i name sorted within here tie k d from inside =
     ap (λ q. text_cmp q (get_or names k d).0) (key_here names key i d name within here tie)
     ∙ rises_at names (ascends names sorted) i k d (omega arith) inside
 
 -- no name stands from the end on
-pub above_end : (names : List Name) (key : Text) (i : ℕ) → length names ≤ i → IsAbove names key i
+pub above_end : (names : List Name) (key : Text) (i : ℕ) → length names ≤ i → PrecedesNames names key i
 above_end names key i past k d from inside = absurd (omega arith)
 
 -- where the places meet, the key comes before all from there on
-pub above_upto : (names : List Name) (key : Text) (high low : ℕ) → IsAbove names key high → high ≤ low → IsAbove names key low
+pub above_upto : (names : List Name) (key : Text) (high low : ℕ) → PrecedesNames names key high → high ≤ low → PrecedesNames names key low
 above_upto names key high low above meet k d from inside = above k d (omega arith) inside
 
 -- ---- the names from a place on
@@ -122,7 +122,7 @@ here_drop zero names key is = is
 here_drop (suc n) [] key is = is
 here_drop (suc n) (e ∷ es) key is = here_drop n es key is
 
-pub above_drop : (n : ℕ) (names : List Name) (key : Text) → IsAbove names key n → IsAbove (drop n names) key 0
+pub above_drop : (n : ℕ) (names : List Name) (key : Text) → PrecedesNames names key n → PrecedesNames (drop n names) key 0
 above_drop zero names key above = above
 above_drop (suc n) [] key above = λ k d from inside. absurd (omega arith)
 above_drop (suc n) (e ∷ es) key above =
@@ -160,7 +160,7 @@ abbrev named_under : Text → Option Text → Option Name
 named_under key o = option_map (λ n. (key, n)) o
 
 -- if the two places meet, no name has the key
-pub none_is : (names : List Name) (key : Text) (low high : ℕ) → IsBelow names key low → IsAbove names key high → high ≤ low
+pub none_is : (names : List Name) (key : Text) (low high : ℕ) → FollowsNames names key low → PrecedesNames names key high → high ≤ low
     → ◌≡◌ {A = Option Name} None (named_under key (find text_cmp key names))
 none_is names key low high below above meet =
     sym (ap (named_under key) (nowhere names key (λ k d within. by k d within (ltb k low) refl)))

@@ -17,7 +17,7 @@ use Rattle.copy_forms.specs.Merging.{put_by, row_among_changes, rows_with_change
 use Rattle.copy_forms.proofs.Merged.{merged_is, rows_stay}
 use Rattle.name_search.specs.Keys.{text_cmp}
 use Rattle.name_search.specs.NameTables.{IsNameTable, Name, NameTable, key_and_name}
-use Rattle.name_search.specs.Places.{IsAbove, IsBelow, IsHere}
+use Rattle.name_search.specs.Places.{PrecedesNames, FollowsNames, IsHere}
 use Rattle.name_search.specs.Puts.{put_name, put_names}
 use Rattle.name_search.proofs.KeyLemmas.{key_order}
 use Rattle.name_search.proofs.PlaceLemmas.{above_drop, here_drop}
@@ -79,7 +79,7 @@ module _ (change : Change) (cs : List Change) (q : Text)
   by_row row rest o = by_order o (put_by change ++ row_among_changes row (rows_with_changes rest) cs) (put_by change ++ rows_with_changes rest cs) (row ∷ rows_with_changes rest (change ∷ cs))
 
   -- the rows with lesser keys stay before it
-  passes_lesser : (n : ℕ) (rest : List SheetRow) → All (IsRowOfSheet Sheet.Lei) rest → n ≤ length rest → IsBelow (map key_and_name rest) q n
+  passes_lesser : (n : ℕ) (rest : List SheetRow) → All (IsRowOfSheet Sheet.Lei) rest → n ≤ length rest → FollowsNames (map key_and_name rest) q n
       → take n rest ++ rows_with_changes (drop n rest) (change ∷ cs) ≡ rows_with_changes rest (change ∷ cs)
   passes_lesser zero rest each within below = refl
   passes_lesser (suc n) [] each within below = absurd (omega arith)
@@ -95,7 +95,7 @@ module _ (change : Change) (cs : List Change) (q : Text)
       ap (by_row row rest) (orders row (All-head (IsRowOfSheet Sheet.Lei) row rest each) ∙ here (key_and_name row))
 
   -- or it comes before those with greater keys
-  passes_greater : (rest : List SheetRow) → All (IsRowOfSheet Sheet.Lei) rest → IsAbove (map key_and_name rest) q 0
+  passes_greater : (rest : List SheetRow) → All (IsRowOfSheet Sheet.Lei) rest → PrecedesNames (map key_and_name rest) q 0
       → rows_with_changes rest (change ∷ cs) ≡ put_by change ++ rows_with_changes rest cs
   passes_greater [] each above = refl
   passes_greater (row ∷ rest) each above =
@@ -157,7 +157,7 @@ put_after rest rest' change cs left out out1 out2 all n is lesser put passes the
 module _ (names : List Name) (changes : List Change) (left : List Name) (i : ℕ) (out : List Name) (change : Change) (q : Text) (n : ℕ)
     (walked : WalkedSo names changes left i out) (within : i < length changes) (here : change ≡ get_or changes i change)
     (is_change : IsChangeOf Sheet.Lei change) (q_is : q ≡ text_at (changed_row change).texts 1) (bound : n ≤ length left)
-    (below : IsBelow left q n) where
+    (below : FollowsNames left q n) where
   abbrev cs : List Change
   cs = drop (i + 1) changes
 
@@ -172,7 +172,7 @@ module _ (names : List Name) (changes : List Change) (left : List Name) (i : ℕ
     fits = let long : length (map key_and_name w.rest) ≡ length w.rest = length-map w.rest key_and_name in omega (arith, ap length w.left_is)
 
     lesser_pass : take n w.rest ++ rows_with_changes (drop n w.rest) (change ∷ cs) ≡ rows_with_changes w.rest (change ∷ cs)
-    lesser_pass = passes_lesser change cs q orders n w.rest w.each fits (subst (λ l. IsBelow l q n) w.left_is below)
+    lesser_pass = passes_lesser change cs q orders n w.rest w.each fits (subst (λ l. FollowsNames l q n) w.left_is below)
 
     walk_now : out ++ map key_and_name (rows_with_changes w.rest (change ∷ cs)) ≡ map key_and_name (rows_with_changes copy changes)
     walk_now = ap (λ l. out ++ map key_and_name (rows_with_changes w.rest l)) (sym next) ∙ w.walk
@@ -199,7 +199,7 @@ module _ (names : List Name) (changes : List Change) (left : List Name) (i : ℕ
             (walk_now copy w);
       }
 
-  pub walk_greater : (out1 left1 out2 : List Name) → IsAbove left q n → out1 ≡ out ++ take n left → left1 ≡ drop n left
+  pub walk_greater : (out1 left1 out2 : List Name) → PrecedesNames left q n → out1 ≡ out ++ take n left → left1 ≡ drop n left
       → out2 ≡ out1 ++ put_name change → WalkedSo names changes left1 (i + 1) out2
   walk_greater out1 left1 out2 above lesser after put = λ copy are is.
       let w : Walked copy changes left i out = walked copy are is in
@@ -208,7 +208,7 @@ module _ (names : List Name) (changes : List Change) (left : List Name) (i : ℕ
         each = rest_each copy w;
         left_is = after ∙ dropped copy w;
         walk = put_after w.rest (drop n w.rest) change cs left out out1 out2 (map key_and_name (rows_with_changes copy changes)) n w.left_is lesser put (lesser_pass copy w)
-            (passes_greater change cs q orders (drop n w.rest) (rest_each copy w) (subst (λ l. IsAbove l q 0) (dropped copy w) (above_drop n left q above)))
+            (passes_greater change cs q orders (drop n w.rest) (rest_each copy w) (subst (λ l. PrecedesNames l q 0) (dropped copy w) (above_drop n left q above)))
             (walk_now copy w);
       }
 

@@ -18,8 +18,8 @@ Name = Text × Text
 abbrev pub key_and_name : SheetRow → Name
 key_and_name row = (text_at row.texts 1, text_at row.texts 2)
 
--- What an index has of a copy: the number of its publication, its width, and the key and the name of each row, in the
--- order of the rows. The number is known only in JSON.
+-- What an index has of a copy: the number of its publication, and its width. Of each row it has the key and the name,
+-- in the order of the rows. The publication's number is known only in JSON.
 pub record NameTable : Type 0 where
   pub publication : Option ℕ
   pub wide : Bool
@@ -48,7 +48,7 @@ pub record MayTakeDelta (table : NameTable) (delta : DeltaRead) : Type 0 where
   pub newer : table.wide ≡ true → delta.wide ≡ true
 
 -- Why a copy doesn't take a delta. Either the delta starts from another publication, and the fault has the numbers of
--- both; or it starts from this one and is narrow, and the copy is wide. Nothing is said about `NoMemory`.
+-- both. Or it starts from this one and is narrow, and the copy is wide. Nothing is said about `NoMemory`.
 abbrev pub IsTakeFault : NameTable → DeltaRead → TakeFault → Type 0
 IsTakeFault table delta (faults.WrongBase publication from) =
     (table.publication ≡ Some publication) × (delta_base delta ≡ Some from) × (publication ≢ from)

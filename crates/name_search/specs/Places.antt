@@ -6,12 +6,12 @@ use Rattle.name_search.specs.NameTables.{Name}
 use Rattle.name_search.specs.Keys.{text_cmp}
 
 -- The key comes after those of the names before a place.
-abbrev pub IsBelow : List Name → Text → ℕ → Type 0
-IsBelow names key place = (k : ℕ) (d : Name) → k < place → text_cmp key (get_or names k d).0 ≡ Ordering.Greater
+abbrev pub FollowsNames : List Name → Text → ℕ → Type 0
+FollowsNames names key place = (k : ℕ) (d : Name) → k < place → text_cmp key (get_or names k d).0 ≡ Ordering.Greater
 
 -- It comes before those of the names from a place on.
-abbrev pub IsAbove : List Name → Text → ℕ → Type 0
-IsAbove names key place =
+abbrev pub PrecedesNames : List Name → Text → ℕ → Type 0
+PrecedesNames names key place =
     (k : ℕ) (d : Name) → place ≤ k → k < length names → text_cmp key (get_or names k d).0 ≡ Ordering.Less
 
 -- It is that of the name at a place.

@@ -36,8 +36,7 @@ abbrev pub FirstStays : BTreeMap Text (List Text) → BTreeMap Text (List Text) 
 FirstStays old new = (word : Text) → AreKeysOf (rising_in (get_by_word old word)) (rising_in (get_by_word new word))
 
 -- The keys that a map of sets has under a word stay there.
-abbrev pub LaterStays : BTreeMap Text (BTreeSet Text) → BTreeMap Text (BTreeSet Text)
-    → Type 0
+abbrev pub LaterStays : BTreeMap Text (BTreeSet Text) → BTreeMap Text (BTreeSet Text) → Type 0
 LaterStays old new = (word : Text) → AreKeysOf (keys_in (get_by_word old word)) (keys_in (get_by_word new word))
 
 -- The key of a name is noted under each of its words.
@@ -51,7 +50,8 @@ has_word (Some name) word = is_word_among (words name.1) word
 
 -- What is noted in the old postings is noted in the new ones.
 abbrev pub NotesStay : Postings → Postings → Type 0
-NotesStay old new = (word key : Text) → is_one_of_keys key (keys_under old word) ≡ true → is_one_of_keys key (keys_under new word) ≡ true
+NotesStay old new = (word key : Text) → is_one_of_keys key (keys_under old word) ≡ true
+    → is_one_of_keys key (keys_under new word) ≡ true
 
 -- If all of these names are noted in the old postings, they are noted in the new ones.
 abbrev pub StaysFor : List Name → Postings → Postings → Type 0
@@ -62,7 +62,8 @@ abbrev pub TakesFrom : Text → Text → BTreeMap Text (BTreeSet Text)
     → BTreeMap Text (BTreeSet Text) → Type 0
 TakesFrom word key old new =
     (other k : Text) → (bytes_eq word other && bytes_eq key k) ≡ false
-    → is_one_of_keys k (keys_in (get_by_word old other)) ≡ true → is_one_of_keys k (keys_in (get_by_word new other)) ≡ true
+    → is_one_of_keys k (keys_in (get_by_word old other)) ≡ true
+    → is_one_of_keys k (keys_in (get_by_word new other)) ≡ true
 
 -- The names are those of a copy's rows, and each is noted.
 pub record NamesAreIndexed (names : List Name) (postings : Postings) : Type 0 where

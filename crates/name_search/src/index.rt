@@ -133,8 +133,9 @@ impl Index {
         Ok(())
     }
 
-    /// The rows whose names have each word of a text: how many they are, and those on a page of 50, in the order of
-    /// their keys. After the last page there are none. The faults are reported in the order of `FindFault`.
+    /// The rows whose names have each word of a text. The result tells how many they are, and has those on a page of
+    /// 50, in the order of their keys. After the last page there are none. The faults are reported in the order of
+    /// `FindFault`.
     pub fn find(&self, page: u32, text: &str) -> Result<Found, FindFault>
         requires first { 1 ≤ page }
         requires last { page ≤ 1_000_000 }

@@ -2,7 +2,7 @@
 ghost use Rattle.std.specs.Prelude.{◌≡◌, ◌<◌, ◌≤◌, false, length, true, option_map};
 ghost use Rattle.std.specs.FinMap.Entries.{find, is_sorted};
 ghost use Rattle.name_search.specs.Keys.{text_cmp};
-ghost use Rattle.name_search.specs.Places.{IsAbove, IsBelow, IsHere};
+ghost use Rattle.name_search.specs.Places.{PrecedesNames, FollowsNames, IsHere};
 
 use crate::key::SearchKey;
 use crate::named_row::NamedRow;
@@ -50,10 +50,10 @@ pub fn row_near<'a>(rows: &'a [NamedRow], key: &SearchKey<'_>, place: usize) -> 
 pub fn place_of(rows: &VecDeque<NamedRow>, key: &SearchKey<'_>) -> (usize, bool)
     requires { is_sorted text_cmp rows.now.items ≡ true }
     ensures within { result.0 ≤ length rows.now.items }
-    ensures lesser { IsBelow rows.now.items key.now result.0 }
+    ensures lesser { FollowsNames rows.now.items key.now result.0 }
     ensures there { result.1 ≡ true → result.0 < length rows.now.items }
     ensures same { result.1 ≡ true → IsHere rows.now.items key.now result.0 }
-    ensures greater { result.1 ≡ false → IsAbove rows.now.items key.now result.0 }
+    ensures greater { result.1 ≡ false → PrecedesNames rows.now.items key.now result.0 }
 {
     let (low, high) = bounds(rows, key);
     place_between(rows, key, low, high)
@@ -65,8 +65,8 @@ fn bounds(rows: &VecDeque<NamedRow>, key: &SearchKey<'_>) -> (usize, usize)
     requires { is_sorted text_cmp rows.now.items ≡ true }
     ensures ordered { result.0 ≤ result.1 }
     ensures within { result.1 ≤ length rows.now.items }
-    ensures lesser { IsBelow rows.now.items key.now result.0 }
-    ensures greater { IsAbove rows.now.items key.now result.1 }
+    ensures lesser { FollowsNames rows.now.items key.now result.0 }
+    ensures greater { PrecedesNames rows.now.items key.now result.1 }
 {
     let mut low = 0;
     while low < rows.len() - low {
@@ -91,13 +91,13 @@ fn place_between(
     requires sorted { is_sorted text_cmp rows.now.items ≡ true }
     requires ordered { low ≤ high }
     requires bound { high ≤ length rows.now.items }
-    requires below { IsBelow rows.now.items key.now low }
-    requires above { IsAbove rows.now.items key.now high }
+    requires below { FollowsNames rows.now.items key.now low }
+    requires above { PrecedesNames rows.now.items key.now high }
     ensures within { result.0 ≤ length rows.now.items }
-    ensures lesser { IsBelow rows.now.items key.now result.0 }
+    ensures lesser { FollowsNames rows.now.items key.now result.0 }
     ensures there { result.1 ≡ true → result.0 < length rows.now.items }
     ensures same { result.1 ≡ true → IsHere rows.now.items key.now result.0 }
-    ensures greater { result.1 ≡ false → IsAbove rows.now.items key.now result.0 }
+    ensures greater { result.1 ≡ false → PrecedesNames rows.now.items key.now result.0 }
 {
     let mut low = low;
     let mut high = high;

@@ -67,7 +67,7 @@ abbrev pub unless_fault : Kinds → List Row → Option (List Row)
 unless_fault [] rows = Some rows
 unless_fault (fault ∷ faults) rows = None
 
--- What `clap`'s stated reading makes of the words after the first, by this command: the texts under their names, or
--- nothing if it refuses the words.
+-- What `clap`'s stated reading makes of the words after the first, by this command. It gives the texts under their
+-- names, or nothing if it refuses the words.
 unfoldable pub read_by : App → List Text → Option (List Row)
 read_by app words = unless_fault (fault_of app words) (matches_of app words)

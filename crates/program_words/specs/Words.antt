@@ -11,10 +11,10 @@ use Rattle.program_words.specs.declared.runs.Command.{Command}
 use Rattle.program_words.specs.declared.runs.Command.TheVariants as commands
 use Rattle.program_words.specs.declared.runs.WantedRun.{WantedRun}
 
--- What the program may be asked to do: answer the lines of the input; answer over HTTP; patch a copy of this sheet and
--- form by a delta; search the names of a copy of this form; mirror the tables of a register; report on the group of an
--- entity, or on all, from two copies of this form; say whether a text is an LEI; compute the check digits for a text;
--- or generate a register with this many records.
+-- What the program may be asked to do. It may answer the lines of the input, or answer over HTTP. It may patch a copy
+-- of this sheet and form by a delta, or search the names of a copy of this form. It may mirror the tables of a
+-- register. It may report on the group of an entity, or on all, from two copies of this form. It may say whether a text
+-- is an LEI, compute the check digits for a text, or generate a register with this many records.
 pub data Invocation : Type 0 where
   to_answer_lines : Invocation
   to_serve : Invocation
@@ -26,8 +26,9 @@ pub data Invocation : Type 0 where
   to_make_digits : Text → Invocation
   to_make_up : ℕ → Invocation
 
--- What is to be done, and with what: the path of a store, the paths of a first and of a second file, and for a server
--- its port, its number of workers and how many connections each worker takes. A number that isn't given is 0.
+-- What is to be done, and with what: the path of a store, and the paths of a first and of a second file. For a server
+-- there are also its port, its number of workers and how many connections each worker takes. A number that isn't given
+-- is 0.
 pub record Meant : Type 0 where
   pub invocation : Invocation
   pub store : Option Text

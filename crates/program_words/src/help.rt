@@ -63,7 +63,7 @@ makes up a register, publishes it, and tells what became of it
   N  how many records it has, from 2 to 100000
 example: leireg demo 1000";
 
-/// How the command with this name is called: its usage, each option with its range, and an example, in lines; the last
+/// How the command with this name is called: its usage, each option with its range, and an example, in lines. The last
 /// line has no line end. For a word that names no command, the list of commands.
 pub fn help_of(name: &str) -> &'static str {
     match name {

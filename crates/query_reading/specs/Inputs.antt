@@ -13,8 +13,8 @@ use Rattle.query_reading.specs.declared.asked.QueryAsked.{QueryAsked}
 use Rattle.query_reading.specs.declared.grammar.LineMeaning.{LineMeaning}
 use Rattle.query_reading.specs.declared.reply.QueryReply.{QueryReply}
 
--- These bytes ask this, in order: first their complete frames, one after another, and then the line that is left, which
--- lacks its end or a part of its packet.
+-- These bytes ask this, in order: first their complete frames, one after another, and then the line that is left. That
+-- line lacks its end or a part of its packet.
 pub record AsksInOrder {Q H : Type 0} (says : Line → LineMeaning Q H) (bytes : List ℕ)
     (asks : List (QueryAsked Q H)) : Type 0 where
   pub frames : List (Option (Want (QueryAsked Q H) NoEnd))

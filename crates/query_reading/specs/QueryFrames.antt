@@ -107,8 +107,8 @@ query_whole_on says bytes rest more frame is = record {
 -- ---- what is held of an incomplete frame
 
 -- The bytes since the last frame are held up to here, depending on how far the frame was read. In a line all of them
--- are held; in a line that is too long, those after a front that was dropped; in a packet, all of it; in a skipped
--- packet, those after a front.
+-- are held, and in a line that is too long, those after a front that was dropped. In a packet all of it is held, and in
+-- a skipped packet, those after a front.
 abbrev pub HoldsQuery : {Q H : Type 0} → (Line → LineMeaning Q H) → FrameStage H → List ℕ → List ℕ → Type 0
 HoldsQuery says (FrameStage.Line seen) held bytes =
     (held ≡ bytes) × (seen ≤ length held) × HasNoEnd (take seen held)

@@ -70,7 +70,8 @@ fn put_refusal<L: Wire>(
     refusal: QueryRefusal,
 ) -> Result<(), SinkFault>
     ensures puts { Puts (L.written link.old) (L.written link.new)
-        (buffer.old ++ (decimal (query_code refusal) ++ 32 ∷ (query_words refusal ++ 10 ∷ []))) result buffer.new }
+        (buffer.old ++ (decimal (query_code refusal) ++ 32 ∷ (query_words refusal ++ 10 ∷ [])))
+        result buffer.new }
     ensures kept { ¬ (IsErrOf result SinkFault.Failed) → L.write_faults link.new ≡ L.write_faults link.old }
     ensures failed { IsErrOf result SinkFault.Failed →
         FailsLast (link_told L.left L.written) L.write_faults link.old link.new }

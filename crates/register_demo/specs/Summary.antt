@@ -11,8 +11,8 @@ summary_line (name, number) = name ++ (codes " " ++ (number ++ codes "\n"))
 abbrev pub lines_text : List (Text × Text) → Text
 lines_text lines = flat_map summary_line lines
 
--- What is counted: the entries of the register, and in the answers to uploads the accepted items and the items that
--- each of three checks rejected.
+-- The entries of the register are counted. In the answers to uploads the accepted items are counted, and so are the
+-- items that each of three checks rejected.
 abbrev pub verdict_lines : ℕ → Text → List (Text × Text)
 verdict_lines entries answers =
     (codes "entries", decimal entries)

@@ -85,7 +85,8 @@ fn make_records<R: Threads + Sync, W: Sink>(
     requires least { 2 ≤ n }
     requires most { n ≤ 100_000 }
     ensures makes { IfOk result (λ told.
-        MakesRecords n office.old.office office.new.office answers.old.items answers.new.items told.0 told.1) }
+        MakesRecords n office.old.office office.new.office
+        answers.old.items answers.new.items told.0 told.1) }
     ensures same { out.new ≡ out.old }
 {
     accredit(rt, office)?;
@@ -111,7 +112,8 @@ fn make_relationships<R: Threads + Sync, W: Sink>(
     requires least { 2 ≤ n }
     requires most { n ≤ 100_000 }
     ensures makes { IfOk result (λ published.
-        MakesRelationships n office.old.office office.new.office answers.old.items answers.new.items published) }
+        MakesRelationships n office.old.office office.new.office
+        answers.old.items answers.new.items published) }
     ensures same { out.new ≡ out.old }
 {
     let blocks = block_count(n);

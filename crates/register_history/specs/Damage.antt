@@ -80,8 +80,8 @@ abbrev pub request_in : KeptEntry → Option Request
 request_in e = if is_accreditation e then stored_accreditation e
     else (if is_upload e then stored_upload e else (if is_publication e then stored_publication e else None))
 
--- The request that a stored entry was made for. None if its values aren't those of a request, its moment isn't a
--- moment, or its rules may not follow those of the entry before it.
+-- The request that a stored entry was made for. There is none if its values aren't those of a request, or if its moment
+-- isn't a moment. Nor is there one if its rules may not follow those of the entry before it.
 unfoldable pub stored_request : History → KeptEntry → Option Request
 stored_request before e = if is_moment e.moment && rules_may_follow before e.rules then request_in e else None
 
@@ -109,8 +109,8 @@ not_next office e = record { entry = e.seq; kept = entry_line e; replayed = repl
 abbrev pub missing_entry : ℕ → Damage
 missing_entry number = record { entry = number; kept = codes "none"; replayed = codes "NOT_AN_ENTRY" }
 
--- The entry that is stored in place of the one with this number isn't what the replay makes, or has another number, so
--- that none with this number is stored.
+-- The entry that is stored in place of the one with this number isn't what the replay makes, or has another number. If
+-- it has another number, none with this number is stored.
 abbrev pub EntryDiffers : OfficeState → ℕ → KeptEntry → Damage → Type 0
 EntryDiffers office number e damage =
     ((e.seq ≡ number) × (IsNext office e → ⊥) × (damage ≡ not_next office e))
@@ -151,15 +151,15 @@ abbrev pub row_word : Option Text → Text
 row_word None = codes "-"
 row_word (Some row) = row
 
--- A cell in one line: the number of its kind, its name, the number of the entry that touched it last and its row,
--- separated by single spaces.
+-- A cell in one line: the number of its kind, its name, the number of the entry that touched it last, and its row.
+-- Single spaces separate them.
 unfoldable pub cell_line : KeptCell → Text
 cell_line cell = with_spaces (decimal cell.kind ∷ cell.name ∷ decimal cell.touched ∷ row_word cell.row ∷ [])
 
 -- ---- the first cell that differs
 
--- Cells are compared in pages by the entry that touched them last: those of the first 16 entries, of the next 16 and so
--- on up to the last entry, and then those that no entry touched.
+-- Cells are compared in pages by the entry that touched them last. The first page has those of the first 16 entries,
+-- the second those of the next 16, and so on up to the last entry. Then come those that no entry touched.
 abbrev pub page_bounds : ℕ → ℕ → ℕ × ℕ
 page_bounds last page = if nat_lt (16 * page) last
     then (16 * page, if nat_le (16 * page + 16) last then 16 * page + 16 else last)
@@ -202,7 +202,7 @@ pub record DifferFirst (kept made : List KeptCell) (damage : Damage) : Type 0 wh
   pub made_is : made ≡ front ++ made_rest
   pub differs : CellDiffers kept_rest made_rest damage
 
--- The first cell that differs from those of a register after this many entries: the pages before its own have the same
+-- The first cell that differs from those of a register after this many entries. The pages before its own have the same
 -- cells, and so has its own page up to that cell.
 pub record IsCellDamage (last : ℕ) (held : Held) (tables : KeptTables) (damage : Damage) : Type 0 where
   pub page : ℕ
@@ -213,8 +213,8 @@ pub record IsCellDamage (last : ℕ) (held : Held) (tables : KeptTables) (damage
 
 -- ---- damage
 
--- The first difference: an entry that isn't what the replay makes; or, if the entries are a legal history, a cell that
--- isn't one of the register after it.
+-- The first difference is the first entry that differs. If the entries are a legal history, it is the first cell that
+-- differs from those of the register after it.
 abbrev pub IsDamage : Limits → KeptTables → Damage → Type 0
 IsDamage limits tables damage = IsEntryDamage limits tables.entries damage
     ⊎ (Legal (office_of limits tables.entries)
@@ -240,8 +240,8 @@ abbrev pub DamageIsOne : Limits → KeptTables → Type 0
 DamageIsOne limits tables = (one other : Damage) → IsDamage limits tables one
     → IsDamage limits tables other → one ≡ other
 
--- The line of a cell that an entry touched, if its kind and name are known, shows the number of that entry and the word
--- of the row.
+-- Take the line of a cell that an entry touched. If the cell's kind and name are known, the line shows the number of
+-- that entry and the word of the row.
 abbrev pub LineTellsCell : KeptCell → KeptCell → Type 0
 LineTellsCell one other = one.kind ≡ other.kind → one.name ≡ other.name → IsEntryNumber one.touched
     → IsEntryNumber other.touched → cell_line one ≡ cell_line other

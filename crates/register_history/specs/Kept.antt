@@ -25,8 +25,8 @@ with_spaces [] = []
 with_spaces (text ∷ []) = text
 with_spaces (text ∷ next ∷ texts) = text ++ 32 ∷ with_spaces (next ∷ texts)
 
--- The place of a key: the byte of its kind, which is its first text, followed by the name, which is its other texts
--- separated by single spaces.
+-- The place of a key: the byte of its kind, followed by the name. The byte of its kind is its first text, and the name
+-- is its other texts separated by single spaces.
 abbrev pub place_in : KeyTexts → CellPlace
 place_in [] = []
 place_in (kind ∷ texts) = kind ++ with_spaces texts
@@ -66,7 +66,7 @@ content key cell = record {
 
 -- ---- the tables
 
--- The kept cells are those of the register: the place of each key has what the register has under the key, and no other
+-- The kept cells are those of the register. The place of each key has what the register has under the key, and no other
 -- place has anything.
 pub record AreCellsOf (held : Held) (cells : CellsByPlace) : Type 0 where
   pub each : (key : RowKey) → IsKey key

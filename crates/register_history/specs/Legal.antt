@@ -47,8 +47,8 @@ LegalAfter limits before [] = Unit {0}
 LegalAfter limits before (e ∷ rest) = IsNext (office_of limits before) e
     × LegalAfter limits (before ++ e ∷ []) rest
 
--- each entry is what its own request adds to the entries before it, under the limits, and no entry's rules are lower
--- than those of the entry before it
+-- Each entry is what its own request adds to the entries before it, under the limits. No entry's rules are lower than
+-- those of the entry before it.
 unfoldable pub Legal : OfficeState → Type 0
 Legal office = LegalAfter office.limits [] office.history
 

@@ -20,7 +20,7 @@ use Rattle.upload_ledger.specs.History.{History, is_upload}
 use Rattle.register_history.specs.Register.{after, after_entry, entry_items, entry_sitting}
 use Rattle.register_history.specs.State.{OfficeState}
 
--- A change of a record: the row that was held under its LEI, if any, the row that replaced it, and the issuer that sent
+-- A change of a record: the row held before under its LEI, if any, the row that replaced it, and the issuer that sent
 -- it.
 pub record Change : Type 0 where
   pub held : Option Row

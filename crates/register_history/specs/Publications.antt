@@ -88,8 +88,9 @@ last_published history = entry_number (last_entry (publications history))
 abbrev pub are_wide_rules : ℕ → Bool
 are_wide_rules rules = nat_le 3 rules
 
--- The publication that an entry makes after these: its moment, whether its files are wide, the rows of the register
--- that they leave, and the keys that were touched after the previous publication.
+-- The publication that an entry makes after these. It has the moment of the entry, and tells whether its files are
+-- wide. It has the rows of the register that the entries before leave, and the keys that were touched after the
+-- previous publication.
 abbrev pub publication_by : Limits → History → KeptEntry → Publication
 publication_by limits before e = record {
   moment = e.moment;

@@ -15,8 +15,8 @@ use Rattle.register_words.specs.declared.limits.Limits.{Limits}
 use Rattle.register_history.specs.Publications.{is_annulled_relation, last_published}
 use Rattle.register_history.specs.Register.{held_after}
 
--- the row that is published of what is held under a key: none if nothing is held, or if the registration of a
--- relationship is annulled
+-- The row that is published of what is held under a key. There is none if nothing is held, or if the registration of a
+-- relationship is annulled.
 abbrev pub row_published : Option Item → Option SheetRow
 row_published None = None
 row_published (Some (Item.Record row)) = Some (row_of_texts Sheet.Lei row)

@@ -30,8 +30,8 @@ readied_items rules (Err fault) = []
 abbrev pub entry_items : KeptEntry → List Readied
 entry_items e = readied_items (rules_of e.rules) (upload e.body)
 
--- The sitting in which the items of an entry are judged: by the entry's rules, for its issuer, on the day of its
--- moment, and under the limit on records.
+-- The sitting in which the items of an entry are judged. They are judged by the entry's rules, for its issuer, on the
+-- day of its moment, and under the limit on records.
 abbrev pub entry_sitting : Limits → KeptEntry → Sitting
 entry_sitting limits e = sitting_by (rules_of e.rules) limits.records (day_of e.moment) e.office
 
@@ -65,8 +65,8 @@ held_after limits history = fold (held_after_entry limits) empty history
 abbrev pub CellsHaveTheRows : OfficeState → Type 0
 CellsHaveTheRows office = rows (held_after office.limits office.history) ≡ after office.limits office.history
 
--- The table that is kept after a history: it has the cells after it, their rows are those of the table after it, and no
--- cell has a number greater than that of the last entry, which is the number of entries.
+-- The table that is kept after a history. It has the cells after the history, and their rows are those of the table
+-- after it. No cell has a number greater than that of the last entry, which is the number of entries.
 pub record IsKeptAfter (limits : Limits) (history : History) (table : TableState) : Type 0 where
   pub held : table.held ≡ held_after limits history
   pub rows : rows table.held ≡ after limits history

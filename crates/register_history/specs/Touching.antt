@@ -20,7 +20,7 @@ pub record Touches (number : ℕ) (before after : Held) : Type 0 where
       ⊎ ((cell : Cell) × (get after key ≡ Some cell) × (cell.entry ≡ number))
 
 -- These are the cells last touched by entries whose numbers are greater than one number and at most another, as they
--- are kept: each is under a key whose LEIs are valid, and its item is the key's own.
+-- are kept. Each is under a key whose LEIs are valid, and its item is the key's own.
 pub record AreCellsTouched (after upto : ℕ) (held : Held) (cells : List KeptCell) : Type 0 where
   pub list : List Touched
   pub are : cells ≡ map kept_cell list

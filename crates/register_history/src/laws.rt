@@ -44,8 +44,8 @@ pub fn publications_are_few()
     ensures { (office : OfficeState) → Legal office → length (publications office.history) < 1_000_001 }
 {}
 
-/// In the register of a legal history no two live records have the same authority key, and no two active relationships
-/// have the same start and type.
+/// In the register of a legal history no two live records have the same authority key. No two active relationships in
+/// it have the same start and type.
 pub fn registers_are_sound()
     ensures { (office : OfficeState) → Legal office → IsSoundTable (after office.limits office.history) }
 {}
@@ -93,8 +93,8 @@ pub fn texts_of_entries_differ()
     ensures { (limits : Limits) (entries : History) → EntryTextsDiffer limits entries }
 {}
 
-/// The line of a cell whose kind and name are known shows the number of the entry that touched it last, and the word of
-/// its row. A row that is the text `-` has the same word as no row.
+/// Take a cell whose kind and name are known. Its line shows the number of the entry that touched it last, and the word
+/// of its row. A row that is the text `-` has the same word as no row.
 pub fn lines_tell_cells()
     ensures { (one other : KeptCell) → LineTellsCell one other }
 {}

@@ -81,8 +81,8 @@ is_another held issuer (Some Party.New) = false
 is_another held issuer (Some Party.Manager) = not (bytes_eq held.manager issuer)
 is_another held issuer (Some Party.Receiver) = not (option_map_or (bytes_eq issuer) held.transfer_to false)
 
--- C12 fails if one is held, the pair is permitted to its manager (its receiver), and its ManagingLOU (its TransferTo)
--- isn't the issuer that uploads the item.
+-- C12 fails if one is held, the pair is permitted to its manager, and its ManagingLOU isn't the issuer that uploads the
+-- item. The same goes for its receiver and its TransferTo.
 abbrev pub c12 : Option RecCell → Lei → Row → Finding
 c12 None issuer item = fails_if false 12 Detail.None
 c12 (Some held) issuer item =
@@ -123,8 +123,7 @@ c18 next successor = fails_if (is_long next successor) 18 Detail.None
 abbrev pub c16_each : Table → List Lei → Finding
 c16_each table successors = fails_if (list_any (λ lei. is_none (record_of table lei)) successors) 16 Detail.None
 
--- C17 fails if levels 1 to 201 from the successors have at most 200 different LEIs other than the item's own, and its
--- own is among them.
+-- C17 fails if levels 1 to 201 from the successors have the item's own LEI and at most 200 different other LEIs.
 abbrev pub c17_levels : Nexts → Row → List Lei → Finding
 c17_levels nexts item successors =
     fails_if (not (has_wide_levels nexts (lei_in item) successors) && is_back nexts (lei_in item) successors) 17 Detail.None

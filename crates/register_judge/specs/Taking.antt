@@ -47,8 +47,8 @@ is_new_record table sitting (Readied.Good (Item.Record item)) =
     is_none (record_of table (lei_in item)) && is_none (first_failing (earlier_checks table sitting item))
 is_new_record table sitting item = false
 
--- The result of taking items: the table after them, a verdict for each, the writes of the accepted ones, and the number
--- of new records, accepted or not.
+-- The result of taking items: the table after them, a verdict for each, and the writes of the accepted ones. It also
+-- has the number of new records, accepted or not.
 pub record Taken : Type 0 where
   pub table : Table
   pub verdicts : List Verdict
@@ -64,7 +64,7 @@ in_front verdict writes new rest = record {
   new_records = (if new then 1 else 0) + rest.new_records;
 }
 
--- The items of an upload are taken from left to right in one sitting: each is judged on the table so far, and an
+-- The items of an upload are taken from left to right in one sitting. Each is judged on the table so far, and an
 -- accepted one is put, or withdrawn.
 abbrev pub take : Table → Sitting → List Readied → Taken
 take table sitting [] = record { table = table; verdicts = []; writes = []; new_records = 0 }

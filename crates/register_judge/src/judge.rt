@@ -13,8 +13,8 @@ use lei_records::{CellKey, Check, Item, Readied, RecCell, Record, Seen, View};
 use relation_rules::{Checked, exception_check, relation_check};
 use std::alloc::Global;
 
-/// The outcome of an item: its verdict, and whether it is a record that reached the check of room, C20, while no record
-/// with its LEI was held.
+/// The outcome of an item: its verdict, and whether it is new. It is new if it is a record that reached the check of
+/// room, C20, while no record with its LEI was held.
 #[derive(Drop)]
 pub struct ItemOutcome {
     pub verdict: Verdict,

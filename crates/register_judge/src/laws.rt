@@ -55,8 +55,8 @@ pub fn items_keep_to_their_rules()
         → ItemsFit sitting.rules items → TableFits sitting.rules (take table sitting items).table }
 {}
 
-/// If a test is true for each record of a table and for each record among the items, it is true for each record after
-/// the items.
+/// Suppose a test is true for each record of a table and for each record among the items. Then it is true for each
+/// record after the items.
 pub fn items_keep_what_each_record_has()
     ensures { (test : Row → Bool) (table : Table) (sitting : Sitting) (items : List Readied)
         → EachRecord (λ row. IsTrue (test row)) table → EachRecordOf (λ row. IsTrue (test row)) items
@@ -78,9 +78,9 @@ pub fn items_keep_apart()
         → ExceptionsExcludeParents (take table sitting items).table }
 {}
 
-/// Two limits give the same result on a sound table if its records and the new ones together exceed neither. So an
-/// outcome that was judged with room for 4,294,967,295 more records is that of the items on each sound table that
-/// agrees with its reads. This holds under each limit up to that number that these records don't exceed.
+/// Two limits give the same result on a sound table if its records and the new ones together exceed neither. So suppose
+/// an outcome was judged with room for 4,294,967,295 more records. It is then that of the items on each sound table
+/// that agrees with its reads. This holds under each limit up to that number that these records don't exceed.
 pub fn limits_that_suffice_are_alike()
     ensures taken { (rules : Rules) (today : ℤ) (issuer : Lei) (table : Table) (small big : ℕ)
         (items : List Readied) → IsSoundTable table → small ≤ big

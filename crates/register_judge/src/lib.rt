@@ -1,5 +1,6 @@
-//! The verdicts on an upload's items. Each item is judged on the table as the accepted ones before it left it: a record
-//! by the checks C05 to C22, a relationship by C30 to C40, an exception by C50 to C53. This project's profile.
+//! The verdicts on an upload's items. Each item is judged on the table as the accepted ones before it left it. A record
+//! is judged by the checks C05 to C22, a relationship by C30 to C40, and an exception by C50 to C53. This project's
+//! profile.
 #![tactic(auto)]
 
 mod checks;

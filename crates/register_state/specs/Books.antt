@@ -10,8 +10,8 @@ use Rattle.register_history.specs.Legal.{Legal}
 use Rattle.register_history.specs.Register.{IsKeptAfter, after, entry_writes}
 use Rattle.register_history.specs.State.{OfficeState, office_of}
 
--- the limits are in their ranges, the entries are a legal history under them, and the table is the one that is kept
--- after this history
+-- the limits are in their ranges, the entries are a legal history under them, and the table is the one kept after this
+-- history
 pub record AreBooks (limits : Limits) (history : History) (table : TableState) : Type 0 where
   pub of_limits : AreLimits limits
   pub legal : Legal (office_of limits history)

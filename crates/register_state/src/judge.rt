@@ -50,8 +50,8 @@ pub fn judge(
     }
 }
 
-// Whether a plan can be used. It has to be for the moment's day, the table has to agree with what the plan has read,
-// and the plan's new records have to fit.
+// Whether a plan can be used. It has to be for the moment's day, and its new records have to fit. The table has to
+// agree with what the plan has read.
 pub fn is_usable(table: &Table, records: u32, moment: i64, plan: &Plan) -> bool
     requires moment { IsMoment moment }
     requires fits { record_count (rows table.now.held) ≤ records }

@@ -169,8 +169,8 @@ fn is_wide(rules: u16) -> bool
     rules >= WIDE_RULES
 }
 
-// The keys that were last touched by entries with numbers greater than `after` and at most `upto`, each with the row
-// that is published for it, or with none.
+// The keys that were last touched by entries with numbers greater than `after` and at most `upto`. Each key comes with
+// the row that is published for it, or with none.
 fn changes_since(
     alloc: Global,
     table: &Table,

@@ -10,8 +10,8 @@ use Rattle.lei_records.specs.Tables.{KeyTexts, Rows, Table, key_cmp, exception_k
 
 -- ---- cells
 
--- A cell: the number of the entry that touched its key last, and the row that is held under the key, or none after a
--- withdrawal.
+-- A cell: the number of the entry that touched its key last, and the row that is held under the key. After a withdrawal
+-- there is no row.
 pub record Cell : Type 0 where
   pub entry : ℕ
   pub row : Option Row

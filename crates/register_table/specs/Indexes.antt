@@ -16,8 +16,8 @@ use Rattle.register_table.specs.declared.authority_key_index.AuthorityKeyIndex.{
 use Rattle.register_table.specs.declared.long_key_index.LongKeyIndex.{LongKeyIndex}
 use Rattle.register_table.specs.declared.short_key_index.ShortKeyIndex.{ShortKeyIndex}
 
--- What is under a key that has a text of more than 15 bytes: the LEI that was last noted there, or none after the key
--- was freed.
+-- What is under a key that has a text of more than 15 bytes: the LEI that was last noted there. After the key was
+-- freed, no LEI is under it.
 abbrev pub noted_long : LongKeyIndex → Text → Text → Option (Option Lei)
 noted_long long authority id = option_and_then (λ ids. get_by_text ids id) (get_by_text long.map authority)
 

@@ -1,5 +1,5 @@
-//! Uploads that are judged ahead of their turns: a plan that is stale when its turn comes, and callers whose uploads
-//! are judged at the same time.
+//! Uploads judged ahead of their turns: a plan that is stale when its turn comes, and callers whose uploads are judged
+//! at the same time.
 ghost use Rattle.std.specs.Prelude.{◌≡◌, All, IsSomeAnd};
 ghost use Rattle.std.specs.Thread.{IsSync};
 ghost use Rattle.register_words.specs.Requests.{IsUploadNumber};

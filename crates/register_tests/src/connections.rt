@@ -73,8 +73,8 @@ struct Trial {
     writes: List<u64>,
 }
 
-// How a connection ends, if what came back is correct: for each end but one, the replies to exactly those requests that
-// were complete, and after a failed write an incomplete front of the replies.
+// How a connection ends, if what came back is correct. For each end but one, exactly the replies to the requests that
+// were complete must come back. After a failed write, an incomplete front of the replies must come back.
 fn end_of_trial<R: Threads + Wait + Sync>(
     rt: &R,
     alloc: Global,

@@ -13,8 +13,8 @@ use std::test::Fail;
 use std::thread::Threads;
 
 /// Each connection, separated by `^`: its title, how it ends, what is sent and what comes back, separated by `~`. A
-/// line ends in CR and LF. `@` is the status of an empty register, `$` a text of 8,192 letters, `%` are 33 headers, `&`
-/// a lone LF and `|` a tab.
+/// line ends in CR and LF. `@` is the status of an empty register, `$` a text of 8,192 letters, and `%` are 33 headers.
+/// `&` is a lone LF and `|` a tab.
 pub const CONNECTIONS: &str = r#"a status and a path without a route~Closed~GET /v1/status HTTP/1.1
 
 GET /nothing HTTP/1.1

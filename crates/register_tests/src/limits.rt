@@ -19,8 +19,8 @@ pub const OTHER: &str = "HWUPKR0MPOU8FGXBT394";
 pub const MOMENT: i64 = 1_736_553_600;
 
 // An upload of records in their compact form, with their names in byte order. Each has its name, its number at its
-// authority, its LEI and the manager of its record, its state (`issued`, or `retired` with the LEI of its successor),
-// and what follows it.
+// authority, its LEI and the manager of its record. Then come the status of its entity, a field for its successors if
+// it has any, the status of its registration, and what follows it.
 macro_rules! upload {
     ($([$name:literal $number:literal $lei:literal $manager:literal
         $entity:literal $successor:literal $status:literal $after:literal])*) => {

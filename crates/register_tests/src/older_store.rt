@@ -375,8 +375,8 @@ fn first_files(alloc: Global, kept: &Kept) -> Result<Files<Memory>, NoMemory> {
     }
 }
 
-// The first call of a keeper over these files, and a crash of both after it: what is left of them, and whether the call
-// succeeded.
+// The first call of a keeper over these files, and a crash of both after it. The result is what is left of them, and
+// whether the call succeeded.
 fn move_and_crash<D: Crash + Drop>(
     alloc: Global,
     files: Files<D>,
@@ -397,8 +397,8 @@ fn move_and_crash<D: Crash + Drop>(
     }
 }
 
-// The form that a crash left of a store, if the store has what it had before, and the session over it gets the correct
-// answers.
+// The form that a crash left of a store. There is one only if the store has what it had before, and the session over it
+// gets the correct answers.
 fn form_left<R: Threads + Sync, D: Crash + Drop>(
     rt: &R,
     alloc: Global,
@@ -437,8 +437,8 @@ fn move_ending<R: Threads + Sync>(
     }
 }
 
-// The first number of calls that doesn't stop the move, how the move ended there, and after how many stops the store
-// still had form 1.
+// The first number of calls that doesn't stop the move, how the move ended there, and how many stops left the store in
+// form 1.
 fn first_unstopped<R: Threads + Sync>(
     rt: &R,
     alloc: Global,
@@ -600,8 +600,8 @@ fn store_with_refused_entry<R: Threads + Sync>(
     Ok(puts_entry(&mut conn, &entry).then_some(conn))
 }
 
-// The rules of the entry that the store gets if the refused upload is sent once more, and again with the next number,
-// and both get the correct answers.
+// The refused upload is sent once more, and again with the next number. The result is the rules of the entry that the
+// store gets, if both answers are correct.
 fn rules_of_next<R: Threads + Sync>(rt: &R, alloc: Global) -> Result<Option<i64>, NoMemory> {
     let Some(conn) = store_with_refused_entry(rt, alloc)? else {
         return Ok(None);

@@ -163,8 +163,8 @@ fn a_run_ends_at_the_read_that_fails(rt: HostRuntime) -> Result<(), Fail> {
     Ok(())
 }
 
-// The status of a run whose write with this number fails, if a front of the replies was written, and no line was put to
-// the office after the one whose reply is incomplete.
+// The status of a run whose write with this number fails, if a front of the replies was written. Another condition is
+// that no line was put to the office after the one whose reply is incomplete.
 fn status_at_write<R: Threads + Sync>(
     rt: &R,
     alloc: Global,

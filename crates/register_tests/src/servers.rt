@@ -168,7 +168,8 @@ fn shaky_desks(alloc: Global, sent: &str) -> Result<Vec<Desk<Shaky, Still>>, NoM
     Ok(desks)
 }
 
-// How a server of two workers ends if the door of one is broken, and if this comes back for what is sent to the other.
+// How a server of two workers ends if the door of one is broken. The status is told only if `wanted` comes back for
+// what is sent to the other.
 fn status_beside_broken<R: Threads + Wait + Sync>(
     rt: &R,
     alloc: Global,

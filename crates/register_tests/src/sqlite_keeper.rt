@@ -247,13 +247,14 @@ fn a_crash_in_the_last_of_four_calls_of_the_log_loses_nothing(rt: HostRuntime) -
 
 // ---- damage
 
-/// Damage to a store: the statements that do it to a store of form 2, those that do the same to a store of form 1 if
-/// they are others, and the status with which the program refuses the store afterwards.
+/// Damage to a store: the statements that do it to a store of form 2, and those for form 1 if they are others. Last is
+/// the status with which the program refuses the store afterwards.
 pub type Damage = (&'static str, Option<&'static str>, ExitStatus);
 
-/// Damage to a store that has the session: another table with the name, a table without its second key, a further
-/// table, a further index, numbers that fit no field, a missing entry, a second row of the form, a form that no store
-/// has, cells of the other form, cells with an impossible name or kind, and no cell at all.
+/// Damage to a store that has the session. Afterwards the store has another table with the name, a table without its
+/// second key, a further table or a further index. Or numbers fit no field, an entry is missing, the form has a second
+/// row, or the form is one that no store has. Or cells are of the other form, cells have an impossible name or kind, or
+/// there is no cell at all.
 pub const DAMAGE: [Damage; 13] = [
     (
         "DROP TABLE cell; CREATE TABLE cell (kind INTEGER, name TEXT, touched INTEGER, row TEXT)",

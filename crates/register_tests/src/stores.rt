@@ -198,16 +198,16 @@ fn tables(mut keeper: MapKeeper) -> Result<(List<KeptEntry>, List<KeptCell>), Ke
     Ok((entries, cells))
 }
 
-// Whether the number is reported for a store with a change, or nothing is reported if it is 0.
+// Whether a store with a change is reported by the number beside the change, or nothing is reported if that is 0.
 fn is_told<R: Threads + Sync>(
     rt: &R,
     alloc: Global,
     words: &[String],
     entries: &[KeptEntry],
     cells: &[KeptCell],
-    change: Change,
-    number: u64,
+    case: (Change, u64),
 ) -> bool {
+    let (change, number) = case;
     let Ok(keeper) = keeper_with(alloc, entries, cells, change) else {
         return false;
     };
@@ -239,14 +239,14 @@ fn first_misreported<R: Threads + Sync>(
 ) -> Option<Change> {
     for number in (1u64..1_000).step_by(20) {
         for change in [Change::Answer(number), Change::Out(number)] {
-            if !is_told(rt, alloc, words, entries, cells, change, number) {
+            if !is_told(rt, alloc, words, entries, cells, (change, number)) {
                 return Some(change);
             }
         }
     }
-    for (change, number) in CHANGES {
-        if !is_told(rt, alloc, words, entries, cells, change, number) {
-            return Some(change);
+    for case in CHANGES {
+        if !is_told(rt, alloc, words, entries, cells, case) {
+            return Some(case.0);
         }
     }
     None

@@ -6,8 +6,8 @@ use leireg_run::{no_file, run};
 use std::alloc::Global;
 use std::thread::Threads;
 
-// Three issuers are accredited. Then each upload is given by its issuer and number. For the only record in it, the
-// manager and the status are given, and the issuer that is to receive the record, if there is one.
+// Three issuers are accredited. Then each upload is given by its issuer and number. For its only record, the manager
+// and the status are given, and the issuer that is to receive the record, if there is one.
 macro_rules! session {
     ($([$issuer:literal $number:literal $manager:literal $status:literal $receiver:literal])*) => {
         concat!(

@@ -42,8 +42,8 @@ form_named word =
     if bytes_eq word (codes "csv") then Some Form.Csv
     else (if bytes_eq word (codes "json") then Some Form.Json else None)
 
--- The base of a delta that the bytes name: the latest publication that is at least a day, a week or a month old, or the
--- one with a number.
+-- The base of a delta that the bytes name. It is the latest publication that is at least a day, a week or a month old,
+-- or the one with a number.
 abbrev pub base_named : List ℕ → Option Base
 base_named word =
     if bytes_eq word (codes "last-day") then Some Base.LastDay

@@ -8,11 +8,11 @@ use std::fmt;
 /// project's profile.
 #[derive(Clone, Copy, Debug, PartialEq, Eq)]
 pub enum Malformed {
-    /// The bytes aren't a JSON text by RFC 8259, or not one that `serde_json` reads: they aren't UTF-8, start with a
-    /// byte order mark, nest deeper than 127 levels, or have a number too large for a double or half of a surrogate
-    /// pair, even if the value would be dropped.
+    /// The bytes aren't a JSON text by RFC 8259, or not one that `serde_json` reads. They aren't UTF-8, start with a
+    /// byte order mark, or nest deeper than 127 levels. Or they have a number too large for a double or half of a
+    /// surrogate pair, even if the value would be dropped.
     NotJson,
-    /// The value isn't an object, has a member other than `records`, `relationships` and `exceptions`, one of these
+    /// The value isn't an object, or has a member other than `records`, `relationships` and `exceptions`. Or one of these
     /// isn't a list of objects, or a value in one of the objects isn't a text.
     NotAnUpload,
     /// The body lists no item: each of its lists is absent or empty.

@@ -1,5 +1,5 @@
--- The checks over any view: the result that a view's cells give for a relationship and for an exception, or the first
--- cell that the checks need and the view lacks.
+-- The checks over any view: the result that a view's cells give for a relationship and for an exception. If the view
+-- lacks a cell that the checks need, the result reports the first such cell.
 use Rattle.std.specs.Prelude.{ℕ, [], ◌∷◌, Bool, if◌then◌else◌, Option, Some, None, is_some}
 use Rattle.lei_code.specs.Texts.{Lei}
 use Rattle.lei_shapes.specs.declared.lists.ExceptionCategory.{ExceptionCategory}
@@ -43,8 +43,8 @@ on_seen (Seen.Held x) key next = next (Some x)
 on_seen Seen.Empty key next = next None
 on_seen Seen.Missing key next = Checked.Missing key
 
--- The check with the first number fails if a walk comes back to its start, and the one with the second if it is too
--- long.
+-- The check with the first number fails if a walk comes back to its start. The one with the second number fails if the
+-- walk is too long.
 abbrev pub check_walked : ℕ → ℕ → Walked → Checked → Checked
 check_walked cycle long Walked.Meets next = check_failure cycle
 check_walked cycle long Walked.Long next = check_failure long
@@ -80,7 +80,7 @@ abbrev pub check_other_end : Cells → Row → Option Lei → Checked
 check_other_end cells item other = unless_failed (first_failing (c37 other item ∷ []))
     (check_parents cells item)
 
--- The same if the end isn't known yet: a relationship that isn't active needs no further cell, and its own end doesn't
+-- The same if the end isn't known yet. A relationship that isn't active needs no further cell, and its own end doesn't
 -- count as another one.
 abbrev pub check_active : Cells → Row → Checked
 check_active cells item =

@@ -61,8 +61,8 @@ abbrev pub is_fund : Category → Bool
 is_fund Category.Fund = true
 is_fund other = false
 
--- A relationship of the type may start at an entity of the category: a branch's only at a BRANCH, a fund's only at a
--- FUND, and a parent's at any.
+-- A relationship of the type may start at an entity of the category. A branch's may start only at a BRANCH, a fund's
+-- only at a FUND, and a parent's at any.
 abbrev pub may_start : RelationType → Category → Bool
 may_start RelationType.IsDirectlyConsolidatedBy category = true
 may_start RelationType.IsUltimatelyConsolidatedBy category = true
@@ -71,7 +71,8 @@ may_start RelationType.IsFundManagedBy category = is_fund category
 may_start RelationType.IsSubfundOf category = is_fund category
 may_start RelationType.IsFeederTo category = is_fund category
 
--- C35 fails if the type is a branch's and the start isn't a BRANCH, or the type is a fund's and the start isn't a FUND.
+-- C35 fails if the type is a branch's and the start isn't a BRANCH. It also fails if the type is a fund's and the start
+-- isn't a FUND.
 abbrev pub c35 : Option RecCell → Row → Finding
 c35 start item =
     fails_if (option_map_or (λ cell. not (may_start (kind_in item) cell.category)) start false) 35 Detail.None

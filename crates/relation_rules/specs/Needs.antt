@@ -34,8 +34,8 @@ abbrev pub exception_keys : Lei → Option ExceptionCategory → List CellKey
 exception_keys lei None = []
 exception_keys lei (Some category) = CellKey.Exc lei category ∷ []
 
--- The cells that a relationship names: the records of its start and its end, the relationship itself, the active one of
--- its start and type, and the exception that replaces such a parent.
+-- The cells that a relationship names: the records of its start and its end, and the relationship itself. It also names
+-- the active relationship of its start and type, and the exception that replaces such a parent.
 abbrev pub relation_names : Row → List CellKey
 relation_names item =
     (CellKey.Rec (start_in item) ∷ CellKey.Rec (end_in item)
@@ -43,8 +43,8 @@ relation_names item =
     ∷ CellKey.Act (start_in item) (kind_in item) ∷ [])
     ++ exception_keys (start_in item) (parent_category (kind_in item))
 
--- The relationship is an active direct parent, and the cell is that of the direct parent of one of the first 200
--- members of its walk, to the view's knowledge.
+-- The relationship is an active direct parent. The cell is that of the direct parent of one of the first 200 members of
+-- its walk, to the view's knowledge.
 pub record IsOfWalk (cells : Cells) (item : Row) (key : CellKey) : Type 0 where
   pub direct : IsTrue (is_direct_parent item)
   pub member : Lei
@@ -57,8 +57,8 @@ pub record IsOfWalk (cells : Cells) (item : Row) (key : CellKey) : Type 0 where
 abbrev pub IsNeeded : Cells → Row → CellKey → Type 0
 IsNeeded cells item key = Contains (relation_names item) key ⊎ IsOfWalk cells item key
 
--- The cells that an exception names, and it needs no others: the record of its LEI, the exception itself, and the
--- active parent of its category.
+-- The cells that an exception names: the record of its LEI, the exception itself, and the active parent of its
+-- category. It needs no others.
 abbrev pub exception_names : Row → List CellKey
 exception_names row =
     CellKey.Rec (subject_in row) ∷ CellKey.Exc (subject_in row) (exception_category_in row)

@@ -20,8 +20,8 @@ use lei_shapes::{ExceptionCategory, RelationType};
 
 /// The checks C50 to C53 of an exception, or of its withdrawal, that an issuer uploads, by what the view answers: the
 /// first that fails. `Missing` if none fails before one that needs a cell that the view lacks, with the key of the
-/// first such cell. The cells are the record of the exception's LEI, and then the active parent of its category for a
-/// put, or the exception itself for a withdrawal.
+/// first such cell. The check reads the record of the exception's LEI. It then reads the active parent of its category
+/// for a put, or the exception itself for a withdrawal.
 pub fn exception_check<V: View>(view: &V, issuer: &Lei, item: &ExceptionItem) -> Checked
     ensures answers { result ≡ Checking.check_exception (V.cells view.now) issuer.now item.now }
 

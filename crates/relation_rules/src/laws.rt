@@ -9,8 +9,8 @@ ghost use Rattle.lei_records.specs.Tables.{IsSoundTable, Table, put};
 ghost use Rattle.relation_rules.specs.Checks.{c37, exception_checks, other_end, relation_checks};
 ghost use Rattle.relation_rules.specs.Parents.{ExceptionsExcludeParents, ParentChainsEnd};
 
-/// If no active relationship of its start and type has another end, or the relationship isn't active, it can be put
-/// into a sound table, which stays sound.
+/// Suppose a relationship isn't active, or no active relationship of its start and type has another end. If it is put
+/// into a sound table, the table stays sound.
 pub fn fitting_relations_keep_tables_sound()
     ensures { (table : Table) (row : Row) → IsSoundTable table → IsRelationRow row
         → (c37 (other_end table row) row).fails ≡ false → IsSoundTable (put table (Item.Relation row)) }

@@ -27,7 +27,7 @@ use successor_rules::Walked;
 /// The checks C30 to C40 of a relationship that an issuer uploads, by what the view answers: the first that fails.
 /// `Missing` if none fails before one that needs a cell that the view lacks, with the key of the first such cell. The
 /// cells are read in the order of the checks: the records of start and end, and the relationship held under the item's
-/// key. For an active item they are followed by the active relationship of its start and type, the direct parents of a
+/// key. For an active item the active relationship of its start and type follows. Then come the direct parents of a
 /// direct parent, and the exception that replaces a parent.
 pub fn relation_check<V: View>(view: &V, issuer: &Lei, item: &Relation) -> Checked
     ensures answers { result ≡ Checking.check_relation (V.cells view.now) issuer.now item.now }

@@ -31,7 +31,7 @@ ServesQueries form most state written left table written_now left_now ended =
     × Serves (SearchStep form) search_rules most (search_progress state written) left
     (search_progress now written_now) left_now ended
 
--- A search over this state was served completely, to the end of these bytes: all that they ask was answered in order,
+-- A search over this state was served completely, to the end of these bytes. All that they ask was answered in order,
 -- and the written bytes are those of the replies. Or the bytes are so many that they end a session. Nothing else ends
 -- it if nothing fails.
 abbrev pub CompletesQueries : Form → ℕ → SearchState → Option (List ℕ) → List ℕ → NameTable → Option (List ℕ)

@@ -32,8 +32,8 @@ impl Clock for UnaskedClock {
     }
 }
 
-/// Serves one session of a search: reads lines from the wire, with the deltas that they announce, and writes the reply
-/// to each query before the next is read.
+/// Serves one session of a search. It reads lines from the wire, with the deltas that they announce, and writes the
+/// reply to each query before it answers the next one.
 pub fn serve_queries<R, L: Ledger, W: Wire>(
     rt: &R,
     intake: Intake,

@@ -19,8 +19,8 @@ R = Some Party.Receiver
 abbrev pub none : Option Party
 none = None
 
--- A row of the table of transitions: who may make the change, for each status that an item may have, in the order of
--- the columns ISSUED, LAPSED, PENDING_TRANSFER, PENDING_ARCHIVAL, RETIRED, DUPLICATE, ANNULLED.
+-- A row of the table of transitions: who may make the change, for each status that an item may have. The order of the
+-- columns is ISSUED, LAPSED, PENDING_TRANSFER, PENDING_ARCHIVAL, RETIRED, DUPLICATE, ANNULLED.
 abbrev pub TransitionRow : Type 0
 TransitionRow =
     Option Party × Option Party × Option Party × Option Party × Option Party × Option Party

@@ -1,5 +1,5 @@
 //! The rules of a record's registration status: how it may change and by whom, and what it requires of the entity
-//! status and of the renewal date. These rules are this project's own profile. No call takes memory.
+//! status and renewal date. These rules are this project's own profile. No call takes memory.
 #![tactic(auto)]
 
 mod statuses;

@@ -13,7 +13,7 @@ lei_of name = take lei_length name
 abbrev pub rest_of : List ℕ → List ℕ
 rest_of name = drop lei_length name
 
--- The two texts are parts of a name: the first is at most as long as an LEI, and if it is shorter, nothing follows it.
+-- The two texts are parts of a name. The first is at most as long as an LEI. If it is shorter, the second is empty.
 pub record AreNameParts (lei rest : List ℕ) : Type 0 where
   pub most : length lei ≤ lei_length
   pub whole : length lei < lei_length → rest ≡ []

@@ -1,14 +1,14 @@
 -- The texts of the statements, whose meaning SQL defines.
 use Rattle.std.specs.Prelude.{ℕ, List, codes}
 
--- Makes the table of entries, if there is none with this name: one row per entry, whose number is at least 1 and is the
--- row's id.
+-- Makes the table of entries, if there is none with this name. It has one row per entry, whose number is at least 1 and
+-- is the row's id.
 abbrev pub entry_table_text : List ℕ
 entry_table_text = codes "CREATE TABLE IF NOT EXISTS entry (\n  seq INTEGER PRIMARY KEY CHECK (seq >= 1),\n  kind INTEGER NOT NULL,\n  office TEXT NOT NULL,\n  number INTEGER NOT NULL,\n  moment INTEGER NOT NULL,\n  rules INTEGER NOT NULL,\n  body BLOB NOT NULL,\n  answer BLOB NOT NULL\n) STRICT"
 
--- Makes the table of the cells of form 1, if there is none with this name: one row per cell, by its kind and its name,
--- with the number of an entry, at least 1, and a row or NULL. A second index leads from the entries to the cells that
--- they touched.
+-- Makes the table of the cells of form 1, if there is none with this name. It has one row per cell, by its kind and its
+-- name. The row has the number of an entry, at least 1, and a row or NULL. A second index leads from the entries to the
+-- cells that they touched.
 abbrev pub cell_table_text : List ℕ
 cell_table_text = codes "CREATE TABLE IF NOT EXISTS cell (\n  kind INTEGER NOT NULL,\n  name TEXT NOT NULL,\n  touched INTEGER NOT NULL CHECK (touched >= 1),\n  row BLOB,\n  PRIMARY KEY (kind, name),\n  UNIQUE (touched, kind, name)\n) STRICT"
 
@@ -16,9 +16,9 @@ cell_table_text = codes "CREATE TABLE IF NOT EXISTS cell (\n  kind INTEGER NOT N
 abbrev pub store_table_text : List ℕ
 store_table_text = codes "CREATE TABLE IF NOT EXISTS store (\n  one INTEGER PRIMARY KEY,\n  form INTEGER NOT NULL\n) STRICT"
 
--- Makes the table of the cells of form 2, if there is none with this name: one row per cell, by its kind and the two
--- parts of its name, with the number of an entry, at least 1, and a row or NULL. A second index leads from the entries
--- to the cells that they touched.
+-- Makes the table of the cells of form 2, if there is none with this name. It has one row per cell, by its kind and the
+-- two parts of its name. The row has the number of an entry, at least 1, and a row or NULL. A second index leads from
+-- the entries to the cells that they touched.
 abbrev pub cell2_table_text : List ℕ
 cell2_table_text = codes "CREATE TABLE IF NOT EXISTS cell2 (\n  kind INTEGER NOT NULL,\n  lei TEXT NOT NULL,\n  rest TEXT NOT NULL,\n  touched INTEGER NOT NULL CHECK (touched >= 1),\n  row BLOB,\n  PRIMARY KEY (kind, lei, rest),\n  UNIQUE (touched, kind, lei, rest)\n) STRICT"
 
@@ -30,8 +30,8 @@ last_text = codes "SELECT seq FROM entry ORDER BY seq DESC LIMIT 1"
 abbrev pub entries_text : List ℕ
 entries_text = codes "SELECT seq, kind, office, number, moment, rules, body, answer\nFROM entry WHERE seq > ?1 AND seq <= ?2 ORDER BY seq"
 
--- The cells of form 2 whose entry has a number greater than the first parameter and at most the second, by
--- kind, the first part of the name, and the other part.
+-- The cells of form 2 whose entry has a number greater than the first parameter and at most the second. They are in the
+-- order of the kind, the first part of the name, and the other part.
 abbrev pub cells_text : List ℕ
 cells_text = codes "SELECT kind, lei, rest, touched, row\nFROM cell2 WHERE touched > ?1 AND touched <= ?2 ORDER BY kind, lei, rest"
 

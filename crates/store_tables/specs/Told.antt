@@ -53,8 +53,8 @@ abbrev pub tables_in_rows : CellForm → List Row → List Row → KeptTables
 tables_in_rows form entries cells =
     record { entries = map entry_of entries; cells = from_entries (map (place_and_content form) cells) }
 
--- The tables that rows tell by a form: field by field what they have, and none if some row doesn't have an entry or a
--- cell.
+-- The tables that rows tell by a form, which are field by field what the rows have. There are none if some row doesn't
+-- have an entry or a cell.
 abbrev pub told_as : CellForm → List Row → List Row → Option KeptTables
 told_as form entries cells = if are_told form entries cells then Some (tables_in_rows form entries cells) else None
 

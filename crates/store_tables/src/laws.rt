@@ -11,7 +11,7 @@ ghost use Rattle.store_statements.specs.Names.{AreNameParts, lei_of, rest_of};
 ghost use Rattle.store_tables.specs.Forms.{first_store, second_store};
 ghost use Rattle.store_tables.specs.Told.{told_in_rows, told_in_trees};
 
-/// Tables that a store tells are kept tables: the numbers of the entries are at least 1 and rise, and each cell has the
+/// Tables that a store tells are kept tables. The numbers of the entries are at least 1 and rise, and each cell has the
 /// number of an entry.
 pub fn told_tables_are_kept()
     ensures { (schema : Schema) (trees : Trees) (t : KeptTables) → told_in_trees schema trees ≡ Some t

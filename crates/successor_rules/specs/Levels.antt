@@ -11,8 +11,8 @@ use Rattle.successor_rules.specs.Walks.{unless_lacking}
 
 -- ---- levels
 
--- The LEIs that an entity's walk goes on to from one that it reached: those that this one names, but none from the
--- entity's own LEI.
+-- The LEIs that an entity's walk goes on to from one that it reached: those that this one names. From the entity's own
+-- LEI it goes on to none.
 abbrev pub onward_leis : Nexts → Lei → Lei → List Lei
 onward_leis nexts own lei = if bytes_eq lei own then [] else nexts lei
 
@@ -48,8 +48,8 @@ has_wide_levels nexts own first = nat_lt 200 (length (others 201 nexts own first
 abbrev pub is_back : Nexts → Lei → List Lei → Bool
 is_back nexts own first = is_member bytes_eq (levels 201 nexts own first) own
 
--- The result of the walk by levels from what an entity names: it reaches too many LEIs, or it comes back to the entity,
--- or it ends.
+-- The result of the walk by levels from what an entity names. The walk reaches too many LEIs, or it comes back to the
+-- entity, or it ends.
 abbrev pub spread_out : Nexts → Lei → List Lei → Walked
 spread_out nexts own first =
     if has_wide_levels nexts own first then Walked.Long else if is_back nexts own first then Walked.Meets else Walked.Ends

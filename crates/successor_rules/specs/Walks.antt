@@ -6,8 +6,8 @@ use Rattle.lei_records.specs.declared.view.Seen.{Seen}
 use Rattle.lei_records.specs.Walks.{Next, is_long, is_met, walk_members}
 use Rattle.successor_rules.specs.declared.walks.Walked.{Walked}
 
--- The result of a walk from the member `first`, for an entity whose own LEI is `start`: it comes back to the start, or
--- it is too long, or it ends.
+-- The result of a walk from the member `first`, for an entity whose own LEI is `start`. The walk comes back to the
+-- start, or it is too long, or it ends.
 abbrev pub walk_end : Next → Lei → Lei → Walked
 walk_end next start first =
     if is_met next start first then Walked.Meets else if is_long next first then Walked.Long else Walked.Ends

@@ -42,7 +42,7 @@ fn successors_seen(seen: Seen<RecCell>) -> Seen<Successors>
     }
 }
 
-/// The walk by levels of a record whose LEI is `own` and which names the successors `from`: it goes from each record to
+/// The walk by levels of a record whose LEI is `own` and which names the successors `from`. It goes from each record to
 /// all successors that the record names. `Long` if it reaches more than 200 different LEIs. Otherwise `Missing` with
 /// the key of the first record that the view lacks, or else `Meets` if it comes back to `own`.
 pub fn walk_by_levels<V: View>(view: &V, own: &Lei, from: &Successors) -> Walked

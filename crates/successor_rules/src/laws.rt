@@ -42,7 +42,7 @@ pub fn others_are_counted_once()
 {}
 
 /// If each way ends and an entity is changed to name other next ones, each way still ends. The condition is that the
-/// walk by levels from these came to its end: it reached at most 200 LEIs, and the entity was none of them.
+/// walk by levels from these came to its end. That is, it reached at most 200 LEIs, and the entity was none of them.
 pub fn clear_levels_keep_ends()
     ensures { (before after : Nexts) (own : Lei) (targets : List Lei) → AllEnd before
         → IsTurned before after own targets → spread_out before own targets ≡ Walked.Ends → AllEnd after }
@@ -64,13 +64,14 @@ pub fn agreeing_views_tell_the_levels()
         → spread_over answers key own first ≡ spread_out (known_nexts answers) own first }
 {}
 
-/// If each LEI names at most one next one and each way ends, the walk by levels has the same result as the walk of a
-/// chain. The only difference is that it is also `Meets` if the 201st member is the entity itself, which is `Long` for
-/// a chain.
+/// Suppose each LEI names at most one next one, and each way ends. Then the walk by levels has the same result as the
+/// walk of a chain. The only difference is that it is also `Meets` if the 201st member is the entity itself, which is
+/// `Long` for a chain.
 pub fn single_levels_are_chains()
     ensures { (next : Next) (own first : Lei) → AllEnd (λ lei. option_to_list (next lei))
         → spread_out (λ lei. option_to_list (next lei)) own (first ∷ [])
-        ≡ (if is_member bytes_eq (walk_members 201 next first) own then Walked.Meets else walk_end next own first) }
+        ≡ (if is_member bytes_eq (walk_members 201 next first) own then Walked.Meets
+        else walk_end next own first) }
 {}
 
 /// Let one view answer as another for the first 200 LEIs that the walk by levels reaches, unless it lacks the cell.

@@ -49,9 +49,9 @@ fn seen_successor(successor: Option<Lei>) -> Seen<Lei>
     }
 }
 
-/// The walk of successors of a record whose code is `avoid`: it starts at the successor `from`, and goes from each
-/// record to the successor that the record names. `Missing` if the view lacks the record of one of the first 200
-/// members before the walk is decided, with the key of the first such record.
+/// The walk of successors of a record whose code is `avoid`. It starts at the successor `from`, and goes from each
+/// record to the successor that the record names. `Missing` if, before the walk is decided, the view lacks the record
+/// of one of the first 200 members. It has the key of the first such record.
 pub fn walk<V: View>(view: &V, from: &Lei, avoid: &Lei) -> Walked
     ensures answers { result ≡ Successors.walk (V.cells view.now) avoid.now from.now }
 

@@ -8,8 +8,8 @@ use Rattle.turnstile.specs.Lists.{total, IsPrefix}
 use Rattle.turnstile.specs.Meaning.{Meaning, GoesOn, told_of, mine_after}
 use Rattle.turnstile.specs.Rule.{idle_view, spent_view, new_account}
 
--- A pass: the table that it is for, its number, the list that it has seen, the places of its own entries, what it was
--- told, and the numbers that stay.
+-- A pass is for one table and has a number. The other parts are the list that it has seen, the places of its own
+-- entries, what it was told, and the numbers that stay.
 pub record PassView (E D : Type 0) : Type 0 where
   pub table : TableId
   pub number : ℕ
@@ -121,8 +121,8 @@ module _ {E D : Type 0} where
   abbrev pub AreBetween : ℕ → ℕ → List (PassView E D) → Type 0
   AreBetween from to passes = All (λ p. All (IsBetweenCounts from to) p.told) passes
 
-  -- If each member gets a weight of at most its own stretch, all weights together are at most the stretch from one
-  -- count of faults to another.
+  -- If each member gets a weight of at most its stretch, all weights together are at most the stretch between two
+  -- counts of faults.
   abbrev pub AreWithin : ℕ → ℕ → List (PassView E D) → Type 0
   AreWithin from to passes =
       (w : Member D → ℕ) → All (λ p. All (λ t. w t + t.from ≤ t.to) p.told) passes →
@@ -149,8 +149,8 @@ module _ {T E D : Type 0} (m : Meaning T E D) where
         stays = p.stays;
       }
 
-  -- A turn that changed the value from x to y: x continues all that the pass has seen and was told, y continues x, and
-  -- afterwards the pass has seen y, with its own entry and what it was told.
+  -- A turn of a pass changed the value from x to y. The value x continues all that the pass has seen and was told, and
+  -- y continues x. Afterwards the pass has seen y, with its own entry and what it was told.
   pub record IsTurn (before : PassView E D) (said : Option D) (x y : T) (after : PassView E D) : Type 0 where
     pub seen : IsPrefix before.seen (m.entries x)
     pub stays : m.stays x ≡ before.stays

@@ -35,8 +35,8 @@ module _ {D : Type 0} where
   last_count count [] = count
   last_count count (t ∷ ts) = last_count t.1.to ts
 
--- All turns so far: the tickets served and drawn, the list, the makers of the entries after the opening, and the
--- members that were told, each with the number of its pass.
+-- All turns so far: the tickets served and drawn, the list, and the makers of the entries after the opening. The record
+-- also has the members that were told, each with the number of its pass.
 pub record Past (E D : Type 0) : Type 0 where
   pub serving : ℕ
   pub drawn : ℕ
@@ -154,8 +154,8 @@ module _ {T E D : Type 0} (m : Meaning T E D) (opened : T) where
     pub stays : a.stays ≡ m.stays opened
 
   -- What a seat knows is true: the lists that it has seen are fronts of the one list, and its accounts fit. If it has a
-  -- ticket, this ticket is out. If it is in turn, its ticket is served, it has seen the whole list, and at the start of
-  -- its turn the count of faults was at least every told count.
+  -- ticket, this ticket is out. If it is in turn, its ticket is served, and it has seen the whole list. At the start of
+  -- this turn the count of faults was at least every told count.
   pub record ViewFits (past : Past E D) (v : View E D) : Type 0 where
     pub seen : IsPrefix v.seen past.history
     pub aside : IsPrefix v.aside past.history
@@ -175,8 +175,8 @@ module _ {T E D : Type 0} (m : Meaning T E D) (opened : T) where
     pub count : total passes views ≡ n
     pub numbers : (k : ℕ) → total (number_count k) views ≡ once_below k n
 
-  -- What happened since the opening: each entry that was added has a maker, a number below n; the stretches of faults
-  -- are in order; and what has to hold for each member holds.
+  -- What happened since the opening fits. Each entry that was added has a maker, a number below n. The stretches of
+  -- faults are in order, and what has to hold for each member holds.
   pub record PastFits (n : ℕ) (past : Past E D) : Type 0 where
     pub list : (added : List E) × (past.history ≡ m.entries opened ++ added)
         × (length added ≡ length past.makers)

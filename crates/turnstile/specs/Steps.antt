@@ -28,8 +28,8 @@ after_turn first before after told (a ∷ rest) =
     } ∷ rest
 
 module _ {T E D : Type 0} (m : Meaning T E D) where
-  -- The value x continues all that the seat knows: its list starts with what was seen, its numbers that stay are those
-  -- of each account, and its count of faults is at least every count that was told.
+  -- The value x continues all that the seat knows. Its list starts with what was seen, and its numbers that stay are
+  -- those of each account. Its count of faults is at least every count that was told.
   pub record GoesOnFrom (v : View E D) (x : T) : Type 0 where
     pub seen : IsPrefix v.seen (m.entries x)
     pub stays : Each (λ a. m.stays x ≡ a.stays) v.accounts

@@ -8,8 +8,8 @@ pub enum Stage {
     InTurn,
 }
 
-/// What a pass was told in one turn: the piece of data, the length of the list before the turn, and the counts of
-/// faults at its start and at its end.
+/// What a pass was told in one turn: the piece of data, and the length of the list before the turn. It was also told
+/// the counts of faults at the start and at the end of the turn.
 pub struct Member<D> {
     pub piece: D,
     pub at: u64,
@@ -25,8 +25,8 @@ pub struct Account<D> {
     pub told: LinkedList<Member<D>>,
 }
 
-// A seat's stage, its ticket, the count of faults at the start of its turn, the list that it has seen, the list that a
-// seat absorbed by it had seen, and its accounts.
+// What a seat knows: its stage, its ticket, and the count of faults at the start of its turn. It also knows the list
+// that it has seen, the list that a seat absorbed by it had seen, and its accounts.
 pub struct View<E, D> {
     pub stage: Stage,
     pub ticket: u64,

@@ -38,8 +38,8 @@ pub record AreLists (members : json.Members) (front middle end : List RawItem) :
   pub exceptions : items_under Kind.Exception (get_member (list_name Kind.Exception) values) ≡ Some end
   pub flat : members_depth members ≤ 2
 
--- The list of kind `own` after a list of kind `kind` was read: the new one if the kinds are the same, or else the old
--- one.
+-- The list of kind `own` after a list of kind `kind` was read. It is the new one if the kinds are the same, or else the
+-- old one.
 abbrev pub list_with : {X : Type 0} → Kind → Kind → X → X → X
 list_with Kind.Record Kind.Record read old = read
 list_with Kind.Relation Kind.Relation read old = read

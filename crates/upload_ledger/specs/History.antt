@@ -111,13 +111,13 @@ pub data Place : Type 0 where
   ahead : ℕ → Place
   fresh : Place
 
--- the number belongs to an upload that was taken: a repeat of it if it had this body
+-- the number counts as taken: it repeats the upload that has it, if that had this body
 abbrev pub place_of_taken : Body → Option KeptEntry → Place
 place_of_taken body None = number_taken
 place_of_taken body (Some e) = if bytes_eq e.body body then repeat_of e.answer else number_taken
 
--- The first of these that applies: the issuer isn't accredited; the number was taken, with this body or another; it
--- isn't the next one; it is the next one.
+-- An issuer that isn't accredited is unknown. Otherwise a number up to that of its last upload counts as taken, with
+-- this body or another. A number after the next one is ahead, and the next one is fresh.
 abbrev pub place : History → Lei → ℕ → Body → Place
 place history issuer number body =
     if is_some (accredited history issuer) then

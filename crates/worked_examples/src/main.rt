@@ -1,6 +1,6 @@
-//! The program of the register over memory alone, for a first look: it has no store and no connections, and so is
-//! compiled in less than half the time. Where the first word is `sessions`, it runs the worked examples of the files
-//! that the others name.
+//! The program of the register over memory alone, for a first look. It has no store and no connections, and so is
+//! compiled in less than half the time. If the first word is `sessions`, it runs the worked examples of the files that
+//! the others name.
 #![tactic(auto)]
 
 mod commands;
@@ -29,7 +29,7 @@ fn main(rt: HostRuntime) -> io::Result<ExitCode> {
     Ok(ExitCode::from(status))
 }
 
-// The files whose sessions are run, where the words ask for that.
+// The files whose sessions are run, if the words ask for that.
 fn files_in(words: &[String]) -> Option<&[String]> {
     match words.split_first() {
         Some((first, files)) if first.as_str() == "sessions" => Some(files),

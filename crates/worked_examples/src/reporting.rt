@@ -13,8 +13,8 @@ use std::thread::Threads;
 // The greatest numbers of bytes that a read and a write take.
 const SIZES: [usize; 4] = [4_294_967_296, 7, 2, 1];
 
-/// Makes the runs of a session in one piece and by fewer and fewer bytes, tells what came of it, and says whether it is
-/// what was wanted. What a run leaves at the path of its store is there for the next one.
+/// Makes the runs of a session in one piece and by fewer and fewer bytes, and tells what came of it. The result says
+/// whether it is what was wanted. What a run leaves at the path of its store is there for the next one.
 pub fn tell_session<R: Print + AllocGlobal + Threads + Sync>(
     rt: &R,
     alloc: Global,

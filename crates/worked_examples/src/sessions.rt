@@ -45,7 +45,7 @@ pub fn run_files<R: Print + Files + AllocGlobal + Threads + Sync>(
     Ok(u8::from(failed > 0))
 }
 
-// Runs the sessions of a file with the texts that are known, and gives those that are known behind it.
+// Runs the sessions of a file with the texts that are known, and returns those that are known after it.
 fn run_file<R: Print + Files + AllocGlobal + Threads + Sync>(
     rt: &R,
     host: &HostRuntime,

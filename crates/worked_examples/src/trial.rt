@@ -61,7 +61,7 @@ impl Devices {
     }
 }
 
-/// Makes a run over a keeper in memory. What it leaves at the path of its store goes behind these.
+/// Makes a run over a keeper in memory. What it leaves at the path of its store is put after these stores.
 pub fn run_in_memory<R: Threads + Sync>(
     rt: &R,
     alloc: Global,

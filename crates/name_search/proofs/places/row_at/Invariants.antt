@@ -1,5 +1,5 @@
 use Rattle.std.proofs.Common.{◌≤◌, ◌-◌, length}
-use Rattle.name_search.specs.Places.{IsAbove, IsBelow}
+use Rattle.name_search.specs.Places.{PrecedesNames, FollowsNames}
 use Rattle.name_search.proofs.places.row_at.Given as goal
 
 -- the key is after those before one place, and before those from another place on
@@ -7,8 +7,8 @@ abbrev pub invariant-loop-low : goal.invariant-loop-low
 invariant-loop-low l = record {
   within : l.high ≤ length l.rows;
   ordered : l.low ≤ l.high;
-  below : IsBelow l.rows l.key l.low;
-  above : IsAbove l.rows l.key l.high;
+  below : FollowsNames l.rows l.key l.low;
+  above : PrecedesNames l.rows l.key l.high;
 }
 
 abbrev pub decreases-loop-low : goal.decreases-loop-low
