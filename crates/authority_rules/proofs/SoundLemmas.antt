@@ -1,5 +1,5 @@
 -- An exception that is put or withdrawn leaves a sound table sound.
-use Rattle.std.specs.Prelude.{◌≡◌, Bool, true, false}
+use Rattle.std.specs.Prelude.{Bool, true, false}
 use Rattle.std.proofs.Common.{subst, ap, ◌∙◌}
 use Rattle.lei_records.specs.declared.item.Item.{Item}
 use Rattle.lei_records.specs.Rows.{Row}

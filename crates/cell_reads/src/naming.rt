@@ -1,7 +1,6 @@
 //! The cells that items name.
 ghost use Rattle.std.specs.Prelude.{◌≡◌, ◌++◌, ◌∷◌, [], flat_map, map, option_map, IfOk, OnOk};
 ghost use Rattle.lei_records.specs.declared.view.CellKey.{CellKey as Key};
-ghost use Rattle.lei_records.specs.Parents;
 ghost use Rattle.lei_records.specs.Relations.{end_in, kind_in, start_in};
 ghost use Rattle.relation_rules.specs.Needs.{exception_keys, exception_names, relation_names};
 ghost use Rattle.cell_reads.specs.Needs;

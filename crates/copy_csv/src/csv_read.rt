@@ -1,5 +1,5 @@
 //! Reading lines of CSV.
-ghost use Rattle.std.specs.Prelude.{◌≡◌, ◌<◌, ◌==◌, ◌++◌, ◌∷◌, length, IfOk, IfSome, IfNone, IsTrue, is_some, unwrap_or, false, IsSome};
+ghost use Rattle.std.specs.Prelude.{◌≡◌, ◌<◌, ◌==◌, length, IfOk, is_some, unwrap_or, false, IsSome};
 ghost use Rattle.std.specs.Str.{IsUtf8};
 ghost use Rattle.copy_csv.specs.CsvReading.{after_byte, csv_field_from, csv_text_from, line_from, separator_of, with_front};
 ghost use Rattle.copy_csv.specs.Taking.{SkipsAll, TakesPart, read_with_rest, taken_text};

@@ -1,5 +1,5 @@
 //! Reading files in JSON, exactly in the form in which they are printed.
-ghost use Rattle.std.specs.Prelude.{◌≡◌, ◌≤◌, ◌<◌, ◌+◌, ◌-◌, ◌^◌, List, ℕ, Bool, true, false, [], ◌∷◌, ◌++◌, length, map, option_map, Some, None, codes, IfOk, IsErrOf};
+ghost use Rattle.std.specs.Prelude.{◌≡◌, ◌<◌, ◌-◌, List, true, false, length, map, option_map, Some, None, IfOk, IsErrOf};
 ghost use Rattle.serde_json.specs.Written;
 ghost use Rattle.copy_forms.specs.Json.{json_names};
 ghost use Rattle.copy_forms.specs.JsonTexts;

@@ -1,7 +1,6 @@
 //! Reading the starts of files in JSON, exactly in the form in which they are printed.
-ghost use Rattle.std.specs.Prelude.{◌≡◌, ◌≤◌, ◌<◌, ◌+◌, ◌==◌, List, ℕ, Bool, true, false, [], ◌∷◌, ◌++◌, length, take, slice_index, option_map, Some, None, MatchOption, decimal, codes, IsTrue};
+ghost use Rattle.std.specs.Prelude.{◌≡◌, ◌≤◌, ◌<◌, ◌==◌, ℕ, true, false, length, slice_index, option_map, Some, None, codes};
 ghost use Rattle.std.specs.Char.{is_ascii_digit};
-ghost use Rattle.std.specs.List.{prefix_len};
 ghost use Rattle.copy_forms.specs.JsonReading as spec;
 ghost use Rattle.copy_forms.specs.JsonReading.{JsonGives, publication_number_in};
 

@@ -1,5 +1,5 @@
 //! Reading records of JSON, exactly in the form in which they are printed.
-ghost use Rattle.std.specs.Prelude.{◌≡◌, ◌≤◌, ◌++◌, ◌∷◌, List, ℕ, Bool, true, false, [], length, map, IfOk, OnOk, Some};
+ghost use Rattle.std.specs.Prelude.{◌≡◌, List, ℕ, true, false, length, map, IfOk, Some};
 ghost use Rattle.copy_forms.specs.Json.{json_names};
 ghost use Rattle.copy_forms.specs.JsonTexts;
 ghost use Rattle.copy_forms.specs.JsonReading as spec;

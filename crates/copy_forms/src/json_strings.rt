@@ -1,5 +1,5 @@
 //! Reading strings of JSON, exactly in the form in which they are printed.
-ghost use Rattle.std.specs.Prelude.{◌≡◌, ◌<◌, ◌≤◌, ◌++◌, ℕ, List, true, false, length, slice_index, map, option_map, MatchOption};
+ghost use Rattle.std.specs.Prelude.{◌≡◌, ◌<◌, ◌≤◌, ◌++◌, ℕ, true, false, length, slice_index, map, option_map, MatchOption};
 ghost use Rattle.json.specs.Print.{escape_byte};
 ghost use Rattle.copy_forms.specs.JsonReading as spec;
 ghost use Rattle.copy_forms.specs.JsonReading.{JsonGives, escapes, is_escaped, string_from};

@@ -1,7 +1,5 @@
 //! The JSON record of a row, with its fields in byte order of their names.
-ghost use Rattle.std.specs.Prelude.{◌≡◌, ◌≤◌, ◌++◌, ◌∷◌, List, ℕ, [], length, map, IfOk, OnOk, Some, slice_index_or, codes};
-ghost use Rattle.json.specs.Print.{print};
-ghost use Rattle.lei_records.specs.Rows.{text_at};
+ghost use Rattle.std.specs.Prelude.{◌≡◌, ◌≤◌, ◌++◌, IfOk, OnOk};
 ghost use Rattle.copy_forms.specs.Json.{field_at, json_places, json_record};
 ghost use Rattle.copy_forms.specs.JsonTexts as spec;
 ghost use Rattle.copy_csv.specs.Sheets;

@@ -1,6 +1,6 @@
 //! Files in JSON, joined from the records of rows.
 ghost use Rattle.std.specs.Prelude.{◌≡◌, ◌∷◌, ◌++◌, List, ℕ, [], false, length, map, decimal, codes, IfOk, OnOk};
-ghost use Rattle.json.specs.Token.{begin_array, begin_object, key, number, string};
+ghost use Rattle.json.specs.Token.{begin_array, key, number, string};
 ghost use Rattle.lei_shapes.specs.Clock.{moment_text};
 ghost use Rattle.serde_json.specs.Written.{comma_if};
 ghost use Rattle.copy_forms.specs.Json.{json_copy};

@@ -1,5 +1,5 @@
 //! A fetched view while cells are copied into it.
-ghost use Rattle.std.specs.Prelude.{◌≡◌, [], ◌∷◌, map, OnOk};
+ghost use Rattle.std.specs.Prelude.{[], ◌∷◌, map, OnOk};
 ghost use Rattle.lei_records.specs.declared.view.CellKey.{CellKey};
 ghost use Rattle.cell_reads.specs.Needs.{parent_walk};
 ghost use Rattle.fetched_cells.specs.Fetching.{fetched_keys, keys_along, nearest_records};

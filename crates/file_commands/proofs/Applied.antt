@@ -1,12 +1,12 @@
 -- The outcome for a copy and a delta.
-use Rattle.std.proofs.Common.{◌≡◌, ◌≢◌, ℕ, List, Option, Result, Ok, Err, inl, refl}
+use Rattle.std.proofs.Common.{◌≢◌, ℕ, List, Option, Result, Err, inl, refl}
 use Rattle.lei_code.specs.Texts.{Text}
 use Rattle.register_words.specs.declared.sheets.Form.{Form}
 use Rattle.register_words.specs.declared.sheets.Sheet.{Sheet}
 use Rattle.delta_apply.specs.Applying.{IsAnswer, UnlessApplyLacksMemory}
 use Rattle.delta_apply.specs.declared.fault.ApplyFault.{ApplyFault}
 use Rattle.delta_apply.specs.declared.fault.ApplyFault.TheVariants as faults
-use Rattle.file_commands.specs.Applying.{Patches, apply_outcome, apply_refusal}
+use Rattle.file_commands.specs.Applying.{Patches, apply_outcome}
 use Rattle.file_commands.specs.TwoFiles.{WritesOutcome, WritesResultOf}
 
 -- an answer that isn't lack of memory is the required one

@@ -1,19 +1,18 @@
 -- The outcome for two copies, in a report on groups.
-use Rattle.std.proofs.Common.{◌≡◌, ◌≢◌, ℕ, Bool, true, false, List, Option, Some, None, Result, Ok, Err, inl, inr, refl, sym, ap, subst, ◌∙◌, arith, pos, unwrap_or}
-use Rattle.std.specs.Prelude.{is_some, ⊤}
+use Rattle.std.proofs.Common.{◌≡◌, ◌≢◌, ℕ, Bool, true, false, List, Option, Some, None, Result, Ok, Err, inl, refl, sym, ap, subst, ◌∙◌, arith, pos, unwrap_or}
+use Rattle.std.specs.Prelude.{is_some}
 use Rattle.lei_code.specs.Texts.{Text}
 use Rattle.lei_shapes.specs.Moment.{IsMoment}
 use Rattle.copy_csv.specs.Rows.{AreRows, IsCopyHead}
-use Rattle.copy_csv.specs.Sheets.{SheetRow}
 use Rattle.copy_csv.specs.declared.heads.CopyRead.{CopyRead}
 use Rattle.copy_csv.specs.declared.heads.Head.{Head}
-use Rattle.copy_forms.specs.Files.{IsCopy, IsCopyRead}
-use Rattle.delta_apply.specs.Applying.{IsNoCopy, IsSomeCopy}
+use Rattle.copy_forms.specs.Files.{IsCopyRead}
+use Rattle.delta_apply.specs.Applying.{IsSomeCopy}
 use Rattle.group_reports.specs.declared.faults.GroupFault.TheVariants as faults
 use Rattle.group_reports.specs.Links.{GroupTable, IsGroupFault, IsGroupTable, Link, Name, head_publication}
 use Rattle.register_words.specs.declared.sheets.Form.{Form}
 use Rattle.register_words.specs.declared.sheets.Sheet.{Sheet}
-use Rattle.file_commands.specs.Grouping.{AreCopies, GoTogether, IsReport, IsReportOf, Reports, UnlessGroupLacksMemory, group_outcome, group_refusal, group_table, is_known, report_text}
+use Rattle.file_commands.specs.Grouping.{AreCopies, GoTogether, IsReport, IsReportOf, Reports, UnlessGroupLacksMemory, group_outcome, group_table, is_known, report_text}
 use Rattle.file_commands.specs.TwoFiles.{WritesOutcome, WritesResultOf}
 use Rattle.file_commands.specs.declared.grouping.GroupRefusal.{GroupRefusal}
 use Rattle.file_commands.specs.declared.grouping.GroupRefusal.TheVariants as refusals

@@ -1,5 +1,5 @@
 -- What stopped serving the lines of a run.
-use Rattle.std.proofs.Common.{◌≡◌, ℕ, List, Option, Result, Ok, Err, IsErrOf, refl, sym, ◌∙◌}
+use Rattle.std.proofs.Common.{◌≡◌, Result, IsErrOf, refl}
 use Rattle.request_loop.specs.declared.frames.Ended.{Ended}
 use Rattle.line_reading.specs.declared.framing.NoEnd.{NoEnd}
 use Rattle.file_commands.specs.declared.status.Stop.{Stop}

@@ -1,5 +1,5 @@
 -- The line that the commands over a single text write.
-use Rattle.std.specs.Prelude.{◌≡◌, ℕ, List, [], ◌∷◌, ◌++◌, ◌==◌, ◌⊎◌, length, codes, decimal, if◌then◌else◌, Option, None, Some, Result, MatchResult}
+use Rattle.std.specs.Prelude.{◌≡◌, ℕ, List, [], ◌∷◌, ◌++◌, ◌==◌, ◌⊎◌, length, codes, decimal, if◌then◌else◌, Option, None, Some}
 use Rattle.lei_code.specs.Digits.{digits}
 use Rattle.lei_code.specs.Fault.{fault_of, character_fault}
 use Rattle.lei_code.specs.Texts.{Text}

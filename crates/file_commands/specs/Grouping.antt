@@ -1,5 +1,5 @@
 -- The output of the command that reports on groups. This project's profile.
-use Rattle.std.specs.Prelude.{◌≡◌, ◌≢◌, ◌||◌, ℕ, Bool, true, false, List, [], ◌∷◌, ◌++◌, codes, decimal, is_some, if◌then◌else◌, Result, Ok, Err, map, ⊤}
+use Rattle.std.specs.Prelude.{◌≡◌, ◌≢◌, ◌||◌, Bool, true, false, List, [], ◌∷◌, ◌++◌, codes, decimal, is_some, if◌then◌else◌, Result, Ok, Err, map, ⊤}
 use Rattle.std.specs.Str.{bytes_eq}
 use Rattle.lei_code.specs.Texts.{Text}
 use Rattle.copy_csv.specs.Sheets.{SheetRow}

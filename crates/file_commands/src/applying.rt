@@ -1,5 +1,5 @@
 //! The command that patches a golden copy by a delta.
-ghost use Rattle.std.specs.Prelude.{◌≡◌, Err, IsErrOf};
+ghost use Rattle.std.specs.Prelude.{Err, IsErrOf};
 ghost use Rattle.request_loop.specs.Devices.{FailsIf};
 ghost use Rattle.file_commands.specs.Applying.{Patches, apply_refusal};
 ghost use Rattle.file_commands.specs.TwoFiles.{DoesWithFiles, OneFailsIf, WritesOutcome, WritesResultOf, files};

@@ -1,9 +1,6 @@
 //! The command that reports on groups.
-ghost use Rattle.std.specs.Prelude.{◌≡◌, Err, IfErr, IfOk, IsErrOf};
+ghost use Rattle.std.specs.Prelude.{Err, IsErrOf};
 ghost use Rattle.request_loop.specs.Devices.{FailsIf};
-ghost use Rattle.register_words.specs.declared.sheets.Sheet.{Sheet as DeclaredSheet};
-ghost use Rattle.copy_forms.specs.Files.{IsCopyRead};
-ghost use Rattle.group_reports.specs.Links.{GroupTable};
 ghost use Rattle.file_commands.specs.Grouping.{IsReport, IsReportOf, Reports, UnlessGroupLacksMemory, group_refusal};
 ghost use Rattle.file_commands.specs.TwoFiles.{DoesWithFiles, OneFailsIf, WritesOutcome, WritesResultOf, files};
 ghost use Rattle.request_loop.specs.Wires.{IsSent};

@@ -5,7 +5,7 @@ ghost use Rattle.search_queries.specs.Grammar.{search_says};
 ghost use Rattle.search_queries.specs.Searchers.{IsStateOf};
 ghost use Rattle.search_queries.specs.Searches.{SearchState};
 ghost use Rattle.query_reading.specs.QueryFrames.{HoldsQuery};
-ghost use Rattle.file_commands.specs.Searching.{AnswersCopy, AnswersFrom, RefusesCopy, Searches, copy_refusal};
+ghost use Rattle.file_commands.specs.Searching.{AnswersCopy, AnswersFrom, Searches, copy_refusal};
 ghost use Rattle.file_commands.specs.Sides.{sides};
 ghost use Rattle.file_commands.specs.TwoFiles.{OneFailsIf, WritesOutcome, files};
 ghost use Rattle.file_commands.specs.Status.{end_status};

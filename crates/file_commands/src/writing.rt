@@ -1,5 +1,5 @@
 //! What commands write.
-ghost use Rattle.std.specs.Prelude.{◌≡◌, ◌∷◌, ◌++◌, [], Ok, decimal, flat_map, IsErrOf};
+ghost use Rattle.std.specs.Prelude.{◌∷◌, ◌++◌, [], Ok, decimal, flat_map, IsErrOf};
 ghost use Rattle.request_loop.specs.Devices.{FailsIf};
 ghost use Rattle.request_loop.specs.Wires.{IsSent};
 ghost use Rattle.file_commands.specs.TwoFiles.{WritesOutcome};

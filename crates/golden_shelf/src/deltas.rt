@@ -1,5 +1,5 @@
 //! What a delta has for keys, joined from texts that are kept.
-ghost use Rattle.std.specs.Prelude.{◌≡◌, ◌++◌, ◌≤◌, true, codes, IfOk, OnOk, length, map, replicate};
+ghost use Rattle.std.specs.Prelude.{◌≡◌, true, IfOk, map};
 ghost use Rattle.std.specs.List.{All};
 ghost use Rattle.copy_csv.specs.Csv.{rendered_in};
 ghost use Rattle.copy_csv.specs.Sheets as sheets;

@@ -1,5 +1,5 @@
 //! Replaces the texts of lines without moving the lines.
-ghost use Rattle.std.specs.Prelude.{◌≡◌, ◌<◌, true, IsTrue, length};
+ghost use Rattle.std.specs.Prelude.{◌≡◌, true, length};
 ghost use Rattle.std.specs.FinMap.Entries.{find};
 ghost use Rattle.std.specs.List.{list_all};
 ghost use Rattle.lei_records.specs.Tables.{key_cmp};

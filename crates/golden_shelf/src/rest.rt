@@ -1,5 +1,5 @@
 //! Lines that wait to be appended to others, starting with the first.
-ghost use Rattle.std.specs.Prelude.{◌≡◌, ◌<◌, ◌≤◌, ◌++◌, ◌∷◌, [], MatchOption, length, ℕ, OnOk};
+ghost use Rattle.std.specs.Prelude.{◌≡◌, ◌<◌, ◌≤◌, ◌∷◌, [], MatchOption, length, ℕ, OnOk};
 ghost use Rattle.std.specs.declared.cmp.Ordering.{Ordering as Order};
 ghost use Rattle.lei_records.specs.Tables.{key_cmp};
 ghost use Rattle.golden_shelf.specs.Keys.{key_texts};

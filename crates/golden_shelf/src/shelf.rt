@@ -43,7 +43,7 @@ pub struct Shelf {
 }
 
 impl Model for Shelf {
-    ghost use Rattle.std.specs.Prelude.{◌≤◌, ◌<◌, None, Some, if◌then◌else◌, length, IsTrue};
+    ghost use Rattle.std.specs.Prelude.{◌≤◌, None, Some, if◌then◌else◌, length};
     ghost use Rattle.golden_shelf.specs.Shelves.{ShelfState};
     ghost use Rattle.golden_shelf.specs.Parts.{before_of, kept_parts};
 

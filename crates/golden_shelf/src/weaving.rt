@@ -1,5 +1,5 @@
 //! The walk over the lines of a sheet and their changes.
-ghost use Rattle.std.specs.Prelude.{◌≡◌, ◌+◌, ◌≤◌, ◌<◌, ◌++◌, ◌∷◌, [], length};
+ghost use Rattle.std.specs.Prelude.{◌≡◌, ◌+◌, ◌≤◌, ◌<◌, ◌++◌, [], length};
 ghost use Rattle.golden_shelf.specs.Keys.{key_texts};
 ghost use Rattle.golden_shelf.specs.Lines.{AreSorted, lines_under, with_lines};
 ghost use Rattle.golden_shelf.specs.Sides.{AreRisingChanges, note_change, notes_of};

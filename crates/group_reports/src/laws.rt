@@ -1,5 +1,5 @@
 //! A law of groups, as the contract of a function that does nothing.
-ghost use Rattle.std.specs.Prelude.{◌≡◌, ◌≢◌, ◌↔◌, List as Items};
+ghost use Rattle.std.specs.Prelude.{◌≢◌, ◌↔◌, List as Items};
 ghost use Rattle.std.specs.List.{Contains, IsDistinct};
 ghost use Rattle.std.specs.Str.{bytes_eq};
 ghost use Rattle.lei_code.specs.Texts.{Lei};

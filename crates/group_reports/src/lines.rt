@@ -1,5 +1,5 @@
 //! Lines of reports.
-ghost use Rattle.std.specs.Prelude.{◌≡◌, ◌++◌, ◌∷◌, [], flat_map, map, OnOk};
+ghost use Rattle.std.specs.Prelude.{◌≡◌, ◌++◌, flat_map, map, OnOk};
 ghost use Rattle.group_reports.specs.Reports as spec;
 
 use lei_outside::NoMemory;

@@ -1,7 +1,5 @@
 //! The members of a group.
 ghost use Rattle.std.specs.Prelude.{◌≡◌, ◌<◌, ◌++◌, ◌∷◌, length, map, IfOk, OnOk};
-ghost use Rattle.std.specs.List.{All};
-ghost use Rattle.group_reports.specs.Groups as spec;
 ghost use Rattle.group_reports.specs.Listings.{all_members, member_at, placed_at};
 ghost use Rattle.group_reports.specs.Places.{AreBelow, at, places_in_order};
 

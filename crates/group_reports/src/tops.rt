@@ -1,7 +1,7 @@
 //! The ends of walks up along direct parents.
 ghost use Rattle.std.specs.Prelude.{◌≡◌, ◌<◌, get_or, length, map, IfOk};
 ghost use Rattle.std.specs.List.{All};
-ghost use Rattle.group_reports.specs.Places.{FindsTops, LeadsBy, LeadsFar, LeadsWithin, end_by, stay, step_up};
+ghost use Rattle.group_reports.specs.Places.{FindsTops, LeadsBy, LeadsFar, LeadsWithin, end_by};
 
 use lei_outside::NoMemory;
 use std::alloc::Global;

@@ -1,5 +1,5 @@
 //! What a request asks, by its route, its method, the words of its path and its body.
-ghost use Rattle.std.specs.Prelude.{◌≡◌, [], true, if◌then◌else◌, option_map, IfOk, OnErr};
+ghost use Rattle.std.specs.Prelude.{◌≡◌, true, option_map, IfOk, OnErr};
 ghost use Rattle.std.specs.Char.{is_ascii};
 ghost use Rattle.std.specs.List.{list_all};
 ghost use Rattle.matchit.specs.Params.{named, walk};

@@ -1,6 +1,5 @@
 //! The heads of responses.
-ghost use Rattle.std.specs.Prelude.{◌≡◌, ◌++◌, ◌≤◌, ◌<◌, flat_map, OnOk, unwrap_or, []};
-ghost use Rattle.http.specs.StatusCode.{reason_phrase};
+ghost use Rattle.std.specs.Prelude.{◌≡◌, ◌++◌, ◌<◌, flat_map, OnOk};
 ghost use Rattle.http_heads.specs.Responses.{allow_header, close_header, phrase_of, response_head, type_of};
 
 use http::StatusCode;

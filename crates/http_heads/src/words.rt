@@ -1,5 +1,5 @@
 //! Words of headers, without regard to ASCII case.
-ghost use Rattle.std.specs.Prelude.{◌≡◌, codes, reverse};
+ghost use Rattle.std.specs.Prelude.{◌≡◌, reverse};
 ghost use Rattle.httparse.specs.Grammar.{skip_ows, trim_ows};
 ghost use Rattle.http_heads.specs.Headers.{are_alike, has_close};
 

@@ -1,5 +1,5 @@
 -- What is read at the front of the bytes that are held.
-use Rattle.std.proofs.Common.{◌≡◌, ◌⊎◌, ℕ, ◌+◌, ◌<◌, ◌≤◌, List, [], ◌++◌, length, drop, true, false, Option, None, Some, inl, inr, refl, sym, ap, subst, arith}
+use Rattle.std.proofs.Common.{◌≡◌, ◌⊎◌, ℕ, ◌+◌, ◌≤◌, List, [], ◌++◌, length, true, false, Option, None, Some, inl, inr, refl, sym, ap, subst, arith}
 use Rattle.std.specs.Prelude.{is_some, nat_le}
 use Rattle.http_heads.specs.Heads.{IsHeadRead}
 use Rattle.http_heads.specs.Requests.{IsRequestRead, asked_by_request, request_size}

@@ -9,12 +9,11 @@ use Rattle.register_words.proofs.Numbers.{number_within-range}
 use Rattle.register_words.specs.Requests.{HasNumberInRange}
 use Rattle.register_words.specs.Words.{base_named, form_named, lei_from, number_in_word, sheet_named}
 use Rattle.register_words.specs.declared.reply.Refusal.{Refusal}
-use Rattle.register_words.specs.declared.reply.Refusal.TheVariants.{NoMemory}
 use Rattle.register_words.specs.declared.reply.Reply.TheVariants.{Words}
 use Rattle.register_words.specs.declared.request.Asked.{Asked}
 use Rattle.register_words.specs.declared.request.Asked.TheVariants.{Ask as Asks, Refuse}
 use Rattle.register_words.specs.declared.request.Request.{Request}
-use Rattle.http_heads.specs.Asking.{accredit_in, asked_at, asked_by_method, asked_on, asks, copy_in, delta_in, key_in, kept_in, publish_in, show_in, upload_with_body, words_by}
+use Rattle.http_heads.specs.Asking.{accredit_in, asked_at, asked_on, asks, copy_in, delta_in, key_in, kept_in, publish_in, show_in, upload_with_body, words_by}
 use Rattle.http_heads.specs.Asking as asking
 use Rattle.http_heads.specs.Headers.{header_facts}
 use Rattle.http_heads.specs.Heads.{IsHeadRead, fault_by, fault_of_headers, fault_of_length, fault_of_upload, first_fault, head_fault, headers_of, lacks_length, method_of}

@@ -1,9 +1,6 @@
 -- Responses that are sent in pieces.
-use Rattle.std.proofs.Common.{◌≡◌, ℕ, ◌+◌, ◌<◌, Bool, false, List, ◌++◌, length, take, Option, None, Result, Ok, Err, OnOk, refl, sym, ap, ◌∙◌, subst, arith, length-append}
+use Rattle.std.proofs.Common.{◌≡◌, ℕ, ◌+◌, Bool, false, List, ◌++◌, length, Option, None, Result, Ok, Err, OnOk, refl, sym, ap, ◌∙◌, subst}
 use Rattle.std.specs.Prelude.{is_err}
-use Rattle.std.proofs.Math.Seq.{take-append-add}
-use Rattle.lei_outside.specs.Told.{Grows}
-use Rattle.lei_outside.proofs.Told.{Grows-join}
 use Rattle.register_words.specs.Refusals.{refusal_status_code, refusal_words}
 use Rattle.register_words.specs.declared.reply.Kind.{Kind}
 use Rattle.register_words.specs.declared.reply.Refusal.{Refusal}

@@ -1,5 +1,5 @@
 -- What serving a connection does, and how it ends.
-use Rattle.std.specs.Prelude.{◌≡◌, ℕ, ℤ, List, [], ◌∷◌, Contains, Option}
+use Rattle.std.specs.Prelude.{◌≡◌, ℕ, ℤ, List, Contains, Option}
 use Rattle.lei_office.specs.Answering.{CountedOffice, OfficeStep}
 use Rattle.lei_office.specs.Faults.{keeper_faults}
 use Rattle.lei_outside.specs.Count.{Rose}

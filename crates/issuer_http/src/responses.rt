@@ -1,5 +1,5 @@
 //! Replies as HTTP responses, sent to a link.
-ghost use Rattle.std.specs.Prelude.{◌≡◌, ◌++◌, [], length, OnOk, IsErrOf};
+ghost use Rattle.std.specs.Prelude.{◌≡◌, ◌++◌, OnOk, IsErrOf};
 ghost use Rattle.http_heads.specs.Responses.{response_head};
 ghost use Rattle.lei_outside.specs.Count.{Rose};
 ghost use Rattle.register_words.specs.Refusals.{refusal_words};

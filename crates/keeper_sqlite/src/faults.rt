@@ -1,5 +1,5 @@
 // How failures of the database are handled.
-ghost use Rattle.std.specs.Prelude.{◌≡◌, ◌≢◌, ◌↔◌, ◌≤◌, IsErrOf};
+ghost use Rattle.std.specs.Prelude.{◌≡◌, ◌↔◌, ◌≤◌, IsErrOf};
 ghost use Rattle.lei_outside.specs.Count.{Rose};
 
 use lei_outside::KeepFault;

@@ -1,6 +1,5 @@
 //! A keeper over an SQLite database.
-ghost use Rattle.std.specs.Prelude.{◌≡◌, ◌≤◌, Option, None, Some, IfSome, IfOk, OnOk, IsErrOf, option_map};
-ghost use Rattle.lei_outside.specs.Count.{Rose};
+ghost use Rattle.std.specs.Prelude.{◌≡◌, Option, None, Some, IfSome, IfOk, OnOk, option_map};
 ghost use Rattle.lei_outside.specs.Keeping.{AreKept, CommitLeaves, Commits, IsBatch, IsNextOf, LeavesNoMore, TablesStay, cells_between, entries_between, last_number};
 ghost use Rattle.keeper_sqlite.specs.Keepers.{leaves_from, tables_in};
 

@@ -1,5 +1,5 @@
 //! The check digits of a code.
-ghost use Rattle.std.specs.Prelude.{◌≡◌, ◌↔◌, ◌++◌, ◌≤◌, IfOk, IsOk, length};
+ghost use Rattle.std.specs.Prelude.{◌≡◌, ◌↔◌, ◌++◌, ◌≤◌, IfOk, IsOk};
 ghost use Rattle.std.specs.Result.{result_err};
 ghost use Rattle.lei_code.specs.declared.fault.LeiFault.{LeiFault};
 ghost use Rattle.lei_code.specs.Number.{number};

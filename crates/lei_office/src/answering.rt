@@ -1,5 +1,5 @@
 //! An office as the answerer of a session.
-ghost use Rattle.std.specs.Prelude.{◌≡◌, [], ◌∷◌};
+ghost use Rattle.std.specs.Prelude.{[], ◌∷◌};
 ghost use Rattle.lei_outside.specs.Clock.{Gave, IsClockMoment};
 
 use crate::Office;

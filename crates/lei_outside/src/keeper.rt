@@ -82,7 +82,8 @@ pub trait Keeper {
         ensures faultless { ¬ (IsErrOf result KeepFault.Failed) → faults self.new ≡ faults self.old }
         ensures failed { IsErrOf result KeepFault.Failed → Rose (faults self.old) (faults self.new) };
 
-    /// The cells whose last entry has a number greater than `after` and at most `upto`, in the order of kinds and names.
+    /// The cells whose last entry has a number greater than `after` and at most `upto`, in the order of kinds and
+    /// names.
     fn cells(&mut self, after: u64, upto: u64) -> Result<List<KeptCell>, KeepFault>
         ensures answer { IfSome (tables self.new)
             (λ told. IfOk result (λ list. list ≡ cells_between after upto told)) }

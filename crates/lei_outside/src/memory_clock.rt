@@ -1,5 +1,5 @@
 // A clock that gives moments from memory.
-ghost use Rattle.std.specs.Prelude.{◌≡◌, ℤ, List as Items, [], ◌∷◌, All};
+ghost use Rattle.std.specs.Prelude.{◌≡◌, [], ◌∷◌, All};
 ghost use Rattle.lei_outside.specs.Clock.{ClockState, Gave, IsClockMoment, given_by, moment_after};
 ghost use Rattle.lei_outside.specs.Count.{count_up};
 

@@ -1,5 +1,5 @@
 // Links and doors in memory.
-ghost use Rattle.std.specs.Prelude.{◌≡◌, ◌↔◌, ◌<◌, ◌≤◌, ◌++◌, ◌∷◌, [], Some, Bool, false, true, length, min, take, drop, IsErr, IfOk, OnErr, IsErrOf};
+ghost use Rattle.std.specs.Prelude.{◌≡◌, ◌↔◌, ◌<◌, ◌≤◌, ◌++◌, ◌∷◌, [], Some, false, true, length, min, take, drop, IsErr, IfOk, OnErr, IsErrOf};
 ghost use Rattle.lei_outside.specs.Told.{Reads, Writes};
 ghost use Rattle.lei_outside.specs.Count.{Rose, count_up};
 ghost use Rattle.lei_outside.specs.Doors.{ComesOf, IsFailed, is_line};

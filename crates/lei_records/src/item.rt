@@ -89,8 +89,8 @@ pub enum RawItem {
     Exception(Fields),
 }
 
-/// The items of a body, in the order in which they are judged: records, relationships, exceptions. Within each list they
-/// are in the order in which they were sent.
+/// The items of a body, in the order in which they are judged: records, relationships, exceptions. Within each list
+/// they are in the order in which they were sent.
 #[derive(Debug, Drop)]
 pub struct Upload {
     pub items: List<RawItem>,

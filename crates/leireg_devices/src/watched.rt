@@ -1,7 +1,5 @@
 //! A keeper that reports to a person how far the opening of its store is.
-ghost use Rattle.std.specs.Prelude.{◌≡◌, ◌≤◌, IfOk, IfSome, IsErrOf, OnOk};
-ghost use Rattle.lei_outside.specs.Count.{Rose};
-ghost use Rattle.lei_outside.specs.Keeping.{AreKept, CommitLeaves, Commits, IsBatch, IsNextOf, LeavesNoMore, TablesStay, cells_between, entries_between, last_number};
+ghost use Rattle.std.specs.Prelude.{◌≡◌};
 
 use lei_outside::{Batch, KeepFault, Keeper, KeptCell, KeptEntry, List};
 

@@ -1,5 +1,5 @@
 -- How a run over lines ends, by how serving them ended.
-use Rattle.std.proofs.Common.{◌≡◌, ◌⊎◌, ◌<◌, ℕ, ℤ, List, ◌∷◌, [], length, Option, inl, inr, refl, ap}
+use Rattle.std.proofs.Common.{◌≡◌, ◌⊎◌, ◌<◌, ℕ, List, length, Option, inl, inr, refl}
 use Rattle.std.specs.Str.Lines.{lines}
 use Rattle.lei_outside.specs.Keeping.{KeptTables}
 use Rattle.lei_outside.specs.Told.{Loses}
@@ -16,7 +16,7 @@ use Rattle.line_reading.specs.Replies.{reply_texts}
 use Rattle.line_reading.specs.declared.framing.NoEnd.{NoEnd}
 use Rattle.line_reading.proofs.LineRuns.{AnsweredSome, all_front, answered_all, answered_in_part, answered_to_end}
 use Rattle.leireg_run.specs.Ends.{AnswersLines, AnswersSome, EndsRunWith, RunsFrom, StopsWriting}
-use Rattle.leireg_run.specs.Outside.{Course, Outside, RunLeads, outside}
+use Rattle.leireg_run.specs.Outside.{Course, Outside, outside}
 use Rattle.file_commands.specs.Files.{run_limit}
 use Rattle.file_commands.specs.Status.{end_status, ended_as}
 use Rattle.leireg_run.proofs.Fitting.{reads_office}

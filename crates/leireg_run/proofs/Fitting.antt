@@ -1,7 +1,6 @@
 -- What lines ask may be put to an office.
-use Rattle.std.proofs.Common.{◌≡◌, ◌≢◌, ℕ, ℤ, List, length, Bool, true, false, cond, eqb, Option, None, Some, inl, inr, refl, sym, subst, arith}
+use Rattle.std.proofs.Common.{◌≡◌, length, Bool, true, false, cond, eqb, None, Some, inl, inr, sym, subst, arith}
 use Rattle.register_words.specs.declared.reply.Refusal.TheVariants.{NoMemory}
-use Rattle.register_words.specs.declared.reply.Reply.{Reply}
 use Rattle.register_words.specs.declared.request.Asked.{Asked}
 use Rattle.register_words.specs.declared.request.Asked.TheVariants.{Ask, Refuse}
 use Rattle.request_loop.specs.Frames.{Fits}

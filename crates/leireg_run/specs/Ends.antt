@@ -13,7 +13,7 @@ use Rattle.register_history.specs.declared.damage.Damage.{Damage}
 use Rattle.register_history.specs.Damage.{IsDamage}
 use Rattle.register_history.specs.Kept.{Keeps, StaysUntold}
 use Rattle.register_history.specs.State.{OfficeState}
-use Rattle.register_history.specs.Legal.{Legal, OfficeSession, replies_to}
+use Rattle.register_history.specs.Legal.{OfficeSession, replies_to}
 use Rattle.register_words.specs.Limits.{standard}
 use Rattle.file_commands.specs.Codes.{check_line, digits_fault, digits_line, code_status, WritesLine}
 use Rattle.request_loop.specs.Wires.{IsSent}

@@ -1,5 +1,5 @@
 //! Reports a store that is damaged.
-ghost use Rattle.std.specs.Prelude.{◌≡◌, IsErrOf};
+ghost use Rattle.std.specs.Prelude.{IsErrOf};
 ghost use Rattle.request_loop.specs.Devices.{FailsIf};
 ghost use Rattle.request_loop.specs.Wires.{IsSent};
 ghost use Rattle.leireg_run.specs.Ends.{damage_text};

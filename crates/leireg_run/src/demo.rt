@@ -1,5 +1,5 @@
 //! The command that makes up a register.
-ghost use Rattle.std.specs.Prelude.{◌≡◌, ◌≤◌, IsErrOf};
+ghost use Rattle.std.specs.Prelude.{◌≤◌, IsErrOf};
 ghost use Rattle.request_loop.specs.Devices.{FailsIf};
 ghost use Rattle.leireg_run.specs.Ends.{WritesSummary};
 ghost use Rattle.file_commands.specs.Status.{end_status};

@@ -1,6 +1,5 @@
 //! The command that serves the register, from its words, its keeper and its desks to its status.
 ghost use Rattle.std.specs.Prelude.{◌≡◌, ◌≢◌, ◌≤◌, ◌⊎◌, None, false, length, map, string_bytes, All};
-ghost use Rattle.http_heads.specs.Routes.{routes};
 ghost use Rattle.lei_office.specs.Offices.{keeper_back};
 ghost use Rattle.leireg_run.specs.Ends.{MayTell};
 ghost use Rattle.leireg_serve.specs.Desks.{desk_state, line_tells};

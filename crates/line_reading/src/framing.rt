@@ -94,7 +94,6 @@ impl Framing for LineFraming {
 
     type End = NoEnd;
 
-    ghost use Rattle.std.specs.Prelude.{◌≡◌};
     ghost use Rattle.line_reading.specs.LineFrames.{HoldsLines, line_rules, line_whole_on};
 
     ghost rules = { line_rules };

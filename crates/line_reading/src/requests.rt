@@ -1,6 +1,5 @@
 //! Reads what a line asks.
-ghost use Rattle.std.specs.Prelude.{◌≡◌, None, Some, option_map, option_and_then, position, length, ◌==◌, ◌<◌, IfOk, IfSome, OnErr};
-ghost use Rattle.std.specs.Option.{option_copied};
+ghost use Rattle.std.specs.Prelude.{◌≡◌, None, Some, option_map, position, length, ◌==◌, ◌<◌, IfOk, IfSome, OnErr};
 ghost use Rattle.register_words.specs.Readings.{MayWantMemory};
 ghost use Rattle.line_reading.specs.Requests.{cut_at_space, accreditation_request, copy_request, delta_request, kept_request, publication_request, show_request, upload_request, first_word, asked_after_word, line_asks, or_path};
 ghost use Rattle.line_reading.specs.LineWords.{asked_by_words};

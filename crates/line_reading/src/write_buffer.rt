@@ -1,6 +1,6 @@
 //! A buffer of replies that wait to be written, so that they are written in blocks.
 ghost use Rattle.std.specs.Prelude.{◌≡◌, ◌≤◌, ◌+◌, ◌++◌, [], length, vec_len, vec_capacity, IfOk, OnOk, OnErr, IsErrOf};
-ghost use Rattle.lei_outside.specs.Told.{Grows, WritesFront};
+ghost use Rattle.lei_outside.specs.Told.{WritesFront};
 ghost use Rattle.lei_outside.specs.Faults.{FailsLast};
 ghost use Rattle.lei_outside.specs.Links.{link_told};
 ghost use Rattle.request_loop.specs.Wires.{IsSent};

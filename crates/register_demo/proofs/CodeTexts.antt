@@ -1,7 +1,7 @@
 -- Numbers in 18 digits.
-use Rattle.std.proofs.Common.{◌≡◌, ℕ, ◌+◌, ◌-◌, ◌%◌, ◌/◌, ◌<◌, ◌≤◌, ◌^◌, List, [], ◌∷◌, ◌++◌, length, Bool, true, false, refl, get_or, take, drop, replicate, ap, sym, subst, ◌∙◌, arith, rules}
+use Rattle.std.proofs.Common.{◌≡◌, ℕ, ◌+◌, ◌-◌, ◌%◌, ◌<◌, ◌≤◌, ◌^◌, List, [], ◌++◌, length, true, false, refl, get_or, take, drop, replicate, ap, sym, ◌∙◌, arith, rules}
 use Rattle.std.specs.Prelude.{decimal, All, None, if◌then◌else◌, ◌==◌}
-use Rattle.std.proofs.lemmas.Fmt.{decimal_by_steps, length-decimal-le}
+use Rattle.std.proofs.lemmas.Fmt.{decimal_by_steps}
 use Rattle.std.proofs.lemmas.List.{take-append-drop, take-replicate}
 use Rattle.std.proofs.lemmas.List.Elements.{All-append, All-get_or, All-nil, All-push, All-replicate}
 use Rattle.lei_code.specs.Code.{IsWellFormed}

@@ -1,6 +1,6 @@
 -- Lines that are appended one after the other.
 use Rattle.std.proofs.Common.{◌≡◌, ℕ, List, [], ◌∷◌, ◌++◌, ap, refl, sym, ◌∙◌, append_assoc}
-use Rattle.std.specs.Prelude.{decimal, flat_map}
+use Rattle.std.specs.Prelude.{decimal}
 use Rattle.std.proofs.lemmas.List.{append-nil}
 use Rattle.register_demo.specs.Summary.{lines_text, summary_line}
 

@@ -1,5 +1,5 @@
 -- The results of the parts of a session.
-use Rattle.std.proofs.Common.{◌≡◌, ℕ, cond, zero-add, suc, ◌+◌, ◌*◌, ◌-◌, ◌≤◌, ◌<◌, List, [], ◌∷◌, ◌++◌, length, refl, sym, ap, subst, ◌∙◌, arith, append_assoc, length-append}
+use Rattle.std.proofs.Common.{◌≡◌, ℕ, cond, zero-add, ◌+◌, ◌*◌, List, [], ◌∷◌, ◌++◌, length, refl, sym, ap, subst, ◌∙◌, arith, append_assoc, length-append}
 use Rattle.std.specs.Prelude.{count_by, Err, Ok, Result}
 use Rattle.register_words.specs.declared.sheets.Form.TheVariants.{Csv}
 use Rattle.register_words.specs.declared.sheets.Sheet.TheVariants.{Rr}
@@ -7,13 +7,12 @@ use Rattle.delta_apply.specs.declared.fault.ApplyFault.{ApplyFault}
 use Rattle.delta_apply.specs.declared.fault.ApplyFault.TheVariants as faults
 use Rattle.delta_apply.specs.Applying.{IsAnswer, UnlessApplyLacksMemory}
 use Rattle.register_words.specs.declared.reply.Reply.{Reply}
-use Rattle.register_words.specs.declared.request.Request.{Request}
 use Rattle.register_history.specs.Legal.{Legal}
 use Rattle.register_history.specs.State.{OfficeState}
 use Rattle.register_demo.specs.Marks.{row_count_in}
 use Rattle.register_demo.specs.Plan.{block_count}
-use Rattle.register_demo.specs.Requests.{RepliesFrom, accreditations, deltas, demo_requests, first_publication, office_from, replies_from, second_publication, uploads_of}
-use Rattle.register_demo.specs.Session.{AreReplies, DemoReplies, IsPatchedSize, MakesRecords, MakesRegister, MakesRelationships, Repeats, is_created_reply, is_ok_reply, patched_size, text_in_reply, texts_of_replies}
+use Rattle.register_demo.specs.Requests.{RepliesFrom, accreditations, deltas, first_publication, office_from, replies_from, second_publication, uploads_of}
+use Rattle.register_demo.specs.Session.{IsPatchedSize, MakesRecords, MakesRegister, MakesRelationships, Repeats, is_created_reply, is_ok_reply, patched_size, text_in_reply, texts_of_replies}
 use Rattle.register_demo.specs.declared.plan.Group.{Group}
 use Rattle.register_demo.specs.declared.plan.Group.TheVariants.{Records, Relationships}
 use Rattle.register_demo.specs.declared.summary.Told.{Told}

@@ -3,7 +3,6 @@ use Rattle.std.proofs.Common.{◌≡◌, ℕ, List, [], ◌∷◌, ◌++◌, len
 use Rattle.std.specs.Prelude.{slice_get, count_by, ◌-◌}
 use Rattle.lei_outside.specs.Keeping.{KeptTables, TablesStay, entry_number, last_number, nothing_kept}
 use Rattle.lei_outside.specs.Memory.{SureKeeperState, tables_of}
-use Rattle.lei_outside.specs.declared.entry.KeptEntry.{KeptEntry}
 use Rattle.register_history.specs.Damage.{IsDamage}
 use Rattle.register_history.specs.Kept.{Keeps}
 use Rattle.register_history.specs.Legal.{Legal}

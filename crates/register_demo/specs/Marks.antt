@@ -1,5 +1,5 @@
 -- What is read from texts: how often a mark occurs in one, and the digits after a mark.
-use Rattle.std.specs.Prelude.{ℕ, ◌+◌, ◌-◌, List, [], length, drop, take_while, count_by, slice_get, Option, None, Some, ◌==◌}
+use Rattle.std.specs.Prelude.{ℕ, ◌+◌, ◌-◌, [], length, drop, take_while, count_by, slice_get, Option, None, Some, ◌==◌}
 use Rattle.std.specs.Char.{is_ascii_digit}
 use Rattle.memchr.specs.Find.{matches}
 use Rattle.lei_code.specs.Texts.{Text}

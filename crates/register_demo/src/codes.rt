@@ -2,7 +2,7 @@
 ghost use Rattle.std.specs.Prelude.{◌≡◌, ◌++◌, OnOk};
 ghost use Rattle.lei_code.specs.Code.{IsWellFormed};
 ghost use Rattle.lei_code.specs.Digits.{digits};
-ghost use Rattle.register_demo.specs.Codes.{demo_code, first_issuer, in_18_digits, manager, second_issuer};
+ghost use Rattle.register_demo.specs.Codes.{demo_code, in_18_digits, manager};
 
 use itoa::write_digits;
 use lei_code::{Lei, check_digits};

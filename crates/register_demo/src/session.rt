@@ -4,7 +4,7 @@ ghost use Rattle.register_history.specs.Legal.{Legal};
 ghost use Rattle.register_words.specs.declared.reply.Reply.{Reply as Answer};
 ghost use Rattle.register_demo.specs.Plan.{block_count};
 ghost use Rattle.register_demo.specs.Requests.{RepliesFrom, accreditations, deltas, first_publication};
-ghost use Rattle.register_demo.specs.Session.{IsPatchedSize, MakesRecords, MakesRegister, MakesRelationships, Repeats, is_created_reply, text_in_reply};
+ghost use Rattle.register_demo.specs.Session.{IsPatchedSize, MakesRecords, MakesRegister, MakesRelationships, Repeats, is_created_reply};
 
 use crate::asking::{ask, send_uploads, text_of};
 use crate::codes::issuer_of;

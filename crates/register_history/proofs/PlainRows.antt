@@ -1,6 +1,6 @@
 -- Which publications are wide, and that the rows of a narrow one report no event.
 use Rattle.std.proofs.Common.{◌≡◌, ℕ, ◌≤◌, ◌++◌, List, [], ◌∷◌, Bool, true, false, cond, map, Option, Some, None, refl, sym, ap, ◌∙◌, subst, append_assoc, append-nil, arith, length, unwrap_or}
-use Rattle.std.specs.Prelude.{IfSome, IsTrue, nat_le}
+use Rattle.std.specs.Prelude.{IfSome, IsTrue}
 use Rattle.std.specs.FinMap.{entries, entries_sorted, get, get-entries}
 use Rattle.std.specs.List.{All, AllByRecursion}
 use Rattle.std.proofs.lemmas.Bool.{leb-true}
@@ -9,7 +9,7 @@ use Rattle.std.proofs.lemmas.List.Elements.{All-cons, All-nil}
 use Rattle.lei_outside.specs.declared.entry.KeptEntry.{KeptEntry}
 use Rattle.lei_records.specs.Cells.{lei_in}
 use Rattle.lei_records.specs.Rows.{Row}
-use Rattle.lei_records.specs.Tables.{IsSoundTable, KeyTexts, Table, record_key}
+use Rattle.lei_records.specs.Tables.{KeyTexts, record_key}
 use Rattle.lei_records.specs.declared.view.RowKey.{RowKey}
 use Rattle.register_words.specs.declared.limits.Limits.{Limits}
 use Rattle.register_words.specs.declared.sheets.Sheet.{Sheet}
@@ -19,18 +19,16 @@ use Rattle.golden_shelf.specs.Changes.{ArePlain, KeyChanges, in_sheet}
 use Rattle.golden_shelf.specs.Keys.{is_key_of, key_texts}
 use Rattle.golden_shelf.specs.Shelves.{latest, latest_or_nothing}
 use Rattle.register_judge.specs.Fitting.{EachRecord}
-use Rattle.register_table.specs.Touched.{cell_under_key}
-use Rattle.register_table.specs.Cells.{AreOwnItems}
 use Rattle.register_table.specs.declared.touched.Touched.{Touched}
 use Rattle.upload_ledger.specs.History.{History, is_publication, last_entry}
 use Rattle.register_history.specs.Legal.{Legal, LegalAfter, last_rules}
-use Rattle.register_history.specs.Publications.{are_wide_rules, last_published, publication_by, published_rows, sheet_rows, trail}
+use Rattle.register_history.specs.Publications.{are_wide_rules, last_published, published_rows, sheet_rows, trail}
 use Rattle.register_history.specs.Publishing.{AreNextChanges, row_change_of, row_published}
 use Rattle.register_history.specs.Register.{after, held_after}
-use Rattle.register_history.specs.State.{OfficeState, office_of}
+use Rattle.register_history.specs.State.{office_of}
 use Rattle.register_history.proofs.Chained.{NoEvent, legal-plain}
 use Rattle.register_history.proofs.Histories.{follows-within, last_entry-push}
-use Rattle.register_history.proofs.NextIssue.{IsFoundIn, IsToldBy, all-told, told-found}
+use Rattle.register_history.proofs.NextIssue.{IsToldBy, all-told, told-found}
 use Rattle.register_history.proofs.PublishedRows.{each-found, published_row, rows-found, rows_listed}
 use Rattle.register_history.proofs.Registers.{after-fit}
 use Rattle.register_history.proofs.TrailGrowth.{trail-made, trail-same}

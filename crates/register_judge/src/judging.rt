@@ -1,5 +1,5 @@
 //! The verdicts on the items of an upload.
-ghost use Rattle.std.specs.Prelude.{◌≡◌, ◌<◌, ◌≤◌, ◌+◌, ◌∷◌, ◌++◌, ℕ, [], Err, IfOk, IfSome, IsSome, IsTrue, OnOk, length, if◌then◌else◌};
+ghost use Rattle.std.specs.Prelude.{◌≡◌, ◌<◌, ◌≤◌, ◌+◌, ◌∷◌, ◌++◌, [], Err, IfOk, IfSome, IsSome, IsTrue, OnOk, length, if◌then◌else◌};
 ghost use Rattle.lei_records.specs.Tables.{Table, IsSoundTable, cells_of, record_count, row_key};
 ghost use Rattle.lei_records.specs.declared.view.CellKey.{CellKey as Key};
 ghost use Rattle.relation_rules.specs.Needs.{lacks};

@@ -1,5 +1,5 @@
 //! A view with accepted items put over it.
-ghost use Rattle.std.specs.Prelude.{◌≡◌, ◌&&◌, Bool, ℕ, List, Some, None, OnOk, if◌then◌else◌, not, option_map};
+ghost use Rattle.std.specs.Prelude.{◌≡◌, ◌&&◌, ℕ, List, Some, None, OnOk, if◌then◌else◌, not};
 ghost use Rattle.std.specs.Option.{option_copied};
 ghost use Rattle.std.specs.Str.{bytes_eq};
 ghost use Rattle.lei_shapes.specs.declared.lists.ExceptionCategory.{ExceptionCategory};
@@ -7,7 +7,7 @@ ghost use Rattle.lei_shapes.specs.declared.lists.RelationType.{RelationType};
 ghost use Rattle.lei_records.specs.Cells;
 ghost use Rattle.lei_records.specs.Cells.{lei_in};
 ghost use Rattle.lei_records.specs.Exceptions.{exception_category_in, is_same_category, subject_in};
-ghost use Rattle.lei_records.specs.Relations.{end_in, kind_in, start_in};
+ghost use Rattle.lei_records.specs.Relations.{end_in};
 ghost use Rattle.lei_records.specs.Relations as Spelled;
 ghost use Rattle.lei_records.specs.Tables.{row_key};
 ghost use Rattle.relation_rules.specs.Checks.{is_from};

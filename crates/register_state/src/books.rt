@@ -1,5 +1,5 @@
 //! The books of a register: its limits, its ledger and its table. They don't change while a request is decided.
-ghost use Rattle.std.specs.Prelude.{◌≡◌, take, IfOk, length};
+ghost use Rattle.std.specs.Prelude.{◌≡◌, take, IfOk};
 ghost use Rattle.lei_shapes.specs.Moment.{IsMoment};
 ghost use Rattle.lei_records.specs.Tables.{cells_of};
 ghost use Rattle.fetched_cells.specs.Fetching.{HasJust, fetched_keys};

@@ -1,7 +1,6 @@
 //! The register: it answers requests, and keeps the entries that it adds.
 ghost use Rattle.std.specs.Prelude.{◌≡◌, ◌≤◌, take, IfOk, IfSome, IsErrOf, IsSome, IsTrue, OnErr, Some};
 ghost use Rattle.lei_outside.specs.Count.{Rose};
-ghost use Rattle.lei_shapes.specs.Moment.{IsMoment};
 ghost use Rattle.lei_records.specs.Tables.{cells_of};
 ghost use Rattle.fetched_cells.specs.Fetching.{HasJust, fetched_keys};
 ghost use Rattle.fetched_cells.specs.Maps.{fetched_view};

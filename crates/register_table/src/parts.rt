@@ -3,7 +3,7 @@ ghost use Rattle.std.specs.Prelude.{◌≡◌, None, IfOk, OnOk, OnErr, IfSome, 
 ghost use Rattle.std.specs.FinMap.{get, insert};
 ghost use Rattle.register_table.specs.Cells.{IsOwnCell, cell_in};
 ghost use Rattle.register_table.specs.Held.{CanBeKept, cell_key, rows};
-ghost use Rattle.register_table.specs.Indexes.{end_in_index, holder_in, noted_in};
+ghost use Rattle.register_table.specs.Indexes.{noted_in};
 ghost use Rattle.register_table.specs.Parts.{AreNoted, ArePartsOfTable, IsMarked, IsNewItem, MarksStay, all_marks, lei_marks};
 ghost use Rattle.register_table.specs.Undos.{cells_with};
 

@@ -1,5 +1,5 @@
 //! What entries touched.
-ghost use Rattle.std.specs.Prelude.{◌≡◌, ◌++◌, ◌∷◌, [], ◌&&◌, IfOk, if◌then◌else◌, nat_lt, nat_le};
+ghost use Rattle.std.specs.Prelude.{◌≡◌, ◌&&◌, IfOk};
 ghost use Rattle.register_table.specs.Touched.{cell_under_key};
 ghost use Rattle.register_table.specs.Cells.{IsItemOf, IsOwnCell, cell_in};
 ghost use Rattle.register_table.specs.Held.{cell_key};

@@ -6,7 +6,7 @@ ghost use Rattle.register_table.specs.Cells.{cell_in};
 ghost use Rattle.register_table.specs.Held.{CanBeKept, cell_key, rows};
 ghost use Rattle.register_table.specs.Parts.{ArePartsOfTable, CanBeUndone, MarksStay, NotesCell, all_marks, lei_marks, note_cell};
 ghost use Rattle.register_table.specs.Undos;
-ghost use Rattle.register_table.specs.Undos.{AreOwn, IsOwn, StaysKept, cell_with, cells_before, touch, touch_all};
+ghost use Rattle.register_table.specs.Undos.{AreOwn, IsOwn, StaysKept, cells_before, touch, touch_all};
 
 use crate::parts::{Note, Parts, put, put_back};
 use crate::slots::{Slot, share};

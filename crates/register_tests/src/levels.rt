@@ -1,6 +1,6 @@
 //! Walks by levels whose ends a person can predict, over webs of up to 300 LEIs. Each LEI is known by its number, and
 //! greater numbers are later in byte order. Number 0 is the entity itself.
-ghost use Rattle.std.specs.Prelude.{◌≡◌, List, ℕ};
+ghost use Rattle.std.specs.Prelude.{◌≡◌};
 ghost use Rattle.lei_records.specs.declared.view.CellKey.{CellKey};
 ghost use Rattle.register_tests.specs.Webs.{named_at};
 

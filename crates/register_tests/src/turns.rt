@@ -1,5 +1,5 @@
 //! Callers in turns at one turnstile, in threads and in one thread.
-ghost use Rattle.std.specs.Prelude.{◌≡◌, ℕ, [], length, Some, None, All, IfOk, IsSomeAnd};
+ghost use Rattle.std.specs.Prelude.{◌≡◌, [], length, Some, None, All, IfOk, IsSomeAnd};
 ghost use Rattle.atomic_table.specs.Seated.{TableId};
 ghost use Rattle.turnstile.specs.Passes.{AreOf, HaveAll};
 

@@ -12,8 +12,8 @@ pub enum Malformed {
     /// byte order mark, or nest deeper than 127 levels. Or they have a number too large for a double or half of a
     /// surrogate pair, even if the value would be dropped.
     NotJson,
-    /// The value isn't an object, or has a member other than `records`, `relationships` and `exceptions`. Or one of these
-    /// isn't a list of objects, or a value in one of the objects isn't a text.
+    /// The value isn't an object, or has a member other than `records`, `relationships` and `exceptions`. Or one of
+    /// these isn't a list of objects, or a value in one of the objects isn't a text.
     NotAnUpload,
     /// The body lists no item: each of its lists is absent or empty.
     NoItems,

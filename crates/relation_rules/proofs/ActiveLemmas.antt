@@ -1,5 +1,5 @@
 -- The active relationships of a table: which of them an item meets, and what putting the item changes.
-use Rattle.std.specs.Prelude.{◌≡◌, ℕ, List, [], ◌∷◌, Bool, true, false, not, ◌&&◌, cond, find, Option, Some, None, option_map}
+use Rattle.std.specs.Prelude.{◌≡◌, ℕ, List, [], ◌∷◌, Bool, true, false, not, cond, find, Option, Some, None, option_map}
 use Rattle.std.specs.FinMap.{get, get-insert}
 use Rattle.std.specs.Ordering.{eq_by_cmp}
 use Rattle.std.specs.Str.{bytes_eq}
@@ -11,7 +11,7 @@ use Rattle.lei_shapes.specs.Lists.{relation_type_text}
 use Rattle.lei_records.specs.declared.item.Item.{Item}
 use Rattle.lei_records.specs.Relations.{end_in, is_active, is_active_of, kind_in, start_in}
 use Rattle.lei_records.specs.Rows.{Row}
-use Rattle.lei_records.specs.Tables.{AreRelationsKeyed, HasActives, IsSoundTable, KeyTexts, Table, active_of, key_cmp, put, relation_key_in, relations_of}
+use Rattle.lei_records.specs.Tables.{AreRelationsKeyed, HasActives, KeyTexts, Table, active_of, key_cmp, put, relation_key_in, relations_of}
 use Rattle.authority_rules.proofs.MapLemmas.{find-values}
 use Rattle.authority_rules.proofs.HolderLemmas.{bytes_same, keys_total, same_key}
 use Rattle.authority_rules.proofs.KeyLemmas.{key_itself}

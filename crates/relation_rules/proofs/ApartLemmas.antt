@@ -1,5 +1,5 @@
 -- After items that pass their checks, no entity has both an active parent and the exception of its category.
-use Rattle.std.specs.Prelude.{◌≡◌, ℕ, List, [], ◌∷◌, Bool, true, false, ◌&&◌, cond, Option, Some, None, is_some}
+use Rattle.std.specs.Prelude.{◌≡◌, ℕ, List, [], Bool, true, false, cond, Option, Some, None, is_some}
 use Rattle.std.specs.FinMap.{get, get-insert, get-remove}
 use Rattle.std.specs.Option.{option_map_or}
 use Rattle.std.specs.Ordering.{eq_by_cmp}
@@ -14,7 +14,7 @@ use Rattle.lei_records.specs.Exceptions.{exception_category_in, subject_in}
 use Rattle.lei_records.specs.Checks.{first_failing}
 use Rattle.lei_records.specs.Relations.{end_in, is_active, is_active_of, kind_in, start_in}
 use Rattle.lei_records.specs.Rows.{Row}
-use Rattle.lei_records.specs.Tables.{IsSoundTable, KeyTexts, Table, active_of, exception_key, exception_key_in, has_exception, key_cmp, put}
+use Rattle.lei_records.specs.Tables.{IsSoundTable, Table, active_of, exception_key, exception_key_in, has_exception, key_cmp, put}
 use Rattle.authority_rules.proofs.HolderLemmas.{keys_total, same_key}
 use Rattle.relation_rules.specs.Checks.{exception_checks, has_own_exception, relation_checks}
 use Rattle.lei_records.specs.Parents.{parent_category, parent_type}

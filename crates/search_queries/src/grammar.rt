@@ -1,7 +1,6 @@
 //! The meaning of a search's lines.
 ghost use Rattle.std.specs.Prelude.{◌≡◌, option_map, IfOk, OnErr};
 ghost use Rattle.query_reading.specs.Meanings.{IsWholeQuery};
-ghost use Rattle.query_reading.specs.declared.grammar.LineMeaning.{LineMeaning as Meaning};
 ghost use Rattle.search_queries.specs.Grammar.{find_of, search_says_alone, search_says_with, take_of, utf8_in};
 
 use crate::page::Page;

@@ -1,10 +1,9 @@
 // Which tables a store has.
-ghost use Rattle.std.specs.Prelude.{◌≡◌, ◌↔◌, ◌∷◌, [], pos, Bool, true, false, IsTrue, Some, codes};
+ghost use Rattle.std.specs.Prelude.{◌≡◌, ◌↔◌, ◌∷◌, [], pos, true, false, IsTrue, Some};
 ghost use Rattle.sqlite_value.specs.declared.value.Value.TheVariants.{Int};
 ghost use Rattle.sqlite_value.specs.declared.keys.Collation.TheVariants.{Binary};
 ghost use Rattle.sqlite_sql.specs.declared.ops.BinaryOp.TheVariants.{Compare};
 ghost use Rattle.sqlite_sql.specs.declared.ops.CompareOp.TheVariants.{Ge};
-ghost use Rattle.sqlite_value.specs.Keys.{plain};
 ghost use Rattle.sqlite_schema.specs.Code.{term_in};
 ghost use Rattle.store_statements.specs.Checks.{node_at};
 ghost use Rattle.store_statements.specs.Schemas.{at_least_one, both_schema, by_entry, by_entry2, by_name, by_parts, cell_table, cell2_table, column_of, entry_schema, entry_table, key_index, no_schema, no_stamps, store_schema, store_table, whole_schema};

@@ -1,5 +1,5 @@
 //! The walk of successors if a record may name several.
-ghost use Rattle.std.specs.Prelude.{◌≡◌, ℕ, List};
+ghost use Rattle.std.specs.Prelude.{◌≡◌};
 ghost use Rattle.lei_records.specs.declared.view.CellKey.{CellKey};
 ghost use Rattle.lei_records.specs.Tables.{Table, cells_of};
 ghost use Rattle.lei_records.specs.Walks.{successors_of};

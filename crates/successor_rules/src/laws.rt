@@ -1,5 +1,5 @@
 //! Laws of chains and of levels, each as the contract of an empty function.
-ghost use Rattle.std.specs.Prelude.{◌≡◌, ◌↔◌, ◌∷◌, [], ◌&&◌, ◌⊎◌, if◌then◌else◌, not, Bool, IsTrue, true, false, ℕ, suc, List};
+ghost use Rattle.std.specs.Prelude.{◌≡◌, ◌∷◌, [], ◌&&◌, ◌⊎◌, if◌then◌else◌, not, true, false, ℕ, suc, List};
 ghost use Rattle.lei_code.specs.Texts.{Lei};
 ghost use Rattle.std.specs.Option.{option_to_list};
 ghost use Rattle.std.specs.List.{Contains, IsDistinct};

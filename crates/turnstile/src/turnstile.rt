@@ -38,7 +38,7 @@ pub struct Turnstile<T: Tally> {
 }
 
 impl<T: Tally> Model for Turnstile<T> {
-    ghost use Rattle.std.specs.Prelude.{◌%◌, ◌≡◌, ◌≤◌};
+    ghost use Rattle.std.specs.Prelude.{◌≡◌, ◌≤◌};
     ghost use Rattle.turnstile.specs.Passes.{TurnstileView};
 
     ghost Value = { TurnstileView T };

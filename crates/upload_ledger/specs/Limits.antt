@@ -1,5 +1,5 @@
 -- The most that a ledger keeps. This project's profile.
-use Rattle.std.specs.Prelude.{ℕ, ◌≤◌, length}
+use Rattle.std.specs.Prelude.{◌≤◌, length}
 use Rattle.register_words.specs.Limits.{entry_limit, kept_limit}
 use Rattle.upload_ledger.specs.History.{History, kept_bytes}
 

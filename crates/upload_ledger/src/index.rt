@@ -1,5 +1,5 @@
 // The places of each issuer's entries.
-ghost use Rattle.std.specs.Prelude.{◌≡◌, ◌<◌, ◌++◌, ◌∷◌, [], Bool, Some, None, OnOk, if◌then◌else◌, ◌==◌, option_map, option_and_then, find, filter, slice_get, vec_len, vec_capacity};
+ghost use Rattle.std.specs.Prelude.{◌≡◌, ◌<◌, ◌++◌, ◌∷◌, [], Bool, Some, None, OnOk, if◌then◌else◌, ◌==◌, option_map, find, filter, vec_len, vec_capacity};
 ghost use Rattle.std.specs.Option.{option_or};
 ghost use Rattle.lei_code.specs.Code.{IsValid};
 ghost use Rattle.lei_outside.specs.declared.entry.KeptEntry.{KeptEntry};

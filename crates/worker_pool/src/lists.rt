@@ -1,5 +1,5 @@
 //! Work on each member of a list, in several threads.
-ghost use Rattle.std.specs.Prelude.{◌≡◌, ◌+◌, Ok, Err, length, IfOk};
+ghost use Rattle.std.specs.Prelude.{◌≡◌, ◌+◌, Ok, length, IfOk};
 ghost use Rattle.std.specs.Fn.{FnReturnsAt};
 ghost use Rattle.std.specs.List.{AllZip};
 

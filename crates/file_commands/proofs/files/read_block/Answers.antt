@@ -1,4 +1,4 @@
-use Rattle.std.proofs.Common.{◌≤◌, ◌-◌, ◌++◌, ℕ, List, drop, length, rules}
+use Rattle.std.proofs.Common.{◌≤◌, ◌-◌, ℕ, List, length, rules}
 use borrow.Rule.Slice.PartMut.{post_of}
 use Rattle.file_commands.proofs.FileReading.{fills_block}
 use Rattle.file_commands.proofs.files.read_block.Goals as goal

@@ -1,7 +1,7 @@
 use Rattle.std.proofs.Common.{Err, ap, subst}
 use Rattle.register_words.specs.declared.sheets.Sheet.{Sheet}
 use Rattle.group_reports.specs.Links.{IsGroupFault}
-use Rattle.file_commands.proofs.Grouped.{heads_read, other_publication, reports_by, rows_read, some_copy}
+use Rattle.file_commands.proofs.Grouped.{other_publication, reports_by, rows_read, some_copy}
 use Rattle.file_commands.proofs.grouping.report.Goals as goal
 
 pub returns-in-Err-NotRead-read_copy : goal.returns-in-Err-NotRead-read_copy

@@ -1,6 +1,5 @@
-use Rattle.std.proofs.Common.{ℕ, List, Option, Result, ap, refl, subst, sym, ◌∙◌}
+use Rattle.std.proofs.Common.{Result, ap, refl, subst, sym, ◌∙◌}
 use Rattle.lei_outside.specs.Links.{link_told}
-use Rattle.register_history.specs.State.{OfficeState}
 use Rattle.request_loop.proofs.Failing.{fails_at}
 use Rattle.request_loop.proofs.Parts.{progress_of, serves_of}
 use Rattle.request_loop.specs.Serving.{progress}

@@ -1,4 +1,4 @@
-use Rattle.std.proofs.Common.{rules, map, ◌++◌, []}
+use Rattle.std.proofs.Common.{rules, map}
 use Rattle.std.proofs.lemmas.List.{append-nil}
 use Rattle.register_demo.specs.Bodies.{block_body, body_start, demo_item_text, elements, from_to}
 use Rattle.register_demo.specs.Codes.{manager}

@@ -1,5 +1,4 @@
-use Rattle.std.proofs.Common.{◌≡◌, ◌∙◌, ap}
-use Rattle.std.specs.Prelude.{None, Some}
+use Rattle.std.proofs.Common.{◌∙◌, ap}
 use Rattle.lei_code.specs.Fault.{fault_of}
 use Rattle.register_demo.proofs.CodeTexts.{manager-is}
 use Rattle.register_demo.proofs.codes.issuer_of.Goals as goal

@@ -1,4 +1,4 @@
-use Rattle.std.proofs.Common.{◌∙◌, ◌-◌, ap, length, rules}
+use Rattle.std.proofs.Common.{◌∙◌, ◌-◌, ap, length}
 use Rattle.memchr.specs.Find.{is_byte}
 use Rattle.memchr.proofs.lemmas.CallerLemmas.{length-places}
 use Rattle.register_demo.proofs.marks.rows_in.Goals as goal

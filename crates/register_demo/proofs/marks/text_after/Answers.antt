@@ -1,4 +1,4 @@
-use Rattle.std.proofs.Common.{◌∙◌, ◌+◌, length, rules, subst}
+use Rattle.std.proofs.Common.{◌∙◌, ◌+◌, length, subst}
 use Rattle.std.specs.Prelude.{Some, None}
 use Rattle.memchr.specs.Find.{FindsNeedle}
 use Rattle.register_demo.proofs.Marked.{found, to-end}

@@ -1,4 +1,4 @@
-use Rattle.std.proofs.Common.{◌≡◌, [], ◌∷◌, List, ℕ, subst}
+use Rattle.std.proofs.Common.{[], ◌∷◌, List, ℕ, subst}
 use Rattle.register_words.specs.declared.request.Request.TheVariants.{Accredit}
 use Rattle.register_demo.specs.Codes.{first_issuer}
 use Rattle.register_demo.specs.Requests.{RepliesFrom}

@@ -1,4 +1,4 @@
-use Rattle.std.proofs.Common.{◌≡◌, ◌∙◌, ℕ, List, ap, refl, subst}
+use Rattle.std.proofs.Common.{◌∙◌, ℕ, List, ap, refl, subst}
 use Rattle.register_demo.specs.Marks.{row_count_in}
 use Rattle.register_demo.specs.Session.{IsPatchedSize, MakesRecords, text_in_reply}
 use Rattle.register_demo.proofs.Making.{tells, two-made}

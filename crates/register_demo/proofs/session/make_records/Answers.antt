@@ -1,4 +1,4 @@
-use Rattle.std.proofs.Common.{◌+◌, arith, rules}
+use Rattle.std.proofs.Common.{◌+◌, rules}
 use Rattle.register_demo.proofs.Making.{makes-records}
 use Rattle.register_demo.proofs.session.make_records.Goals as goal
 

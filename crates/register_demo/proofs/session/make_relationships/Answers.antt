@@ -1,4 +1,4 @@
-use Rattle.std.proofs.Common.{◌+◌, ◌*◌, arith, rules}
+use Rattle.std.proofs.Common.{◌+◌, ◌*◌, arith}
 use Rattle.register_words.specs.declared.request.Request.TheVariants.{Publish}
 use Rattle.register_demo.proofs.Making.{makes-relationships}
 use Rattle.register_demo.proofs.Stages.{answers-one}

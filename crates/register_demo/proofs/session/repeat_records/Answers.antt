@@ -1,4 +1,4 @@
-use Rattle.std.proofs.Common.{◌+◌, ◌*◌, arith, rules}
+use Rattle.std.proofs.Common.{◌+◌, ◌*◌, arith}
 use Rattle.register_demo.proofs.Making.{repeats}
 use Rattle.register_demo.proofs.session.repeat_records.Goals as goal
 

@@ -1,4 +1,4 @@
-use Rattle.std.proofs.Common.{[], ◌∷◌, ◌++◌, refl}
+use Rattle.std.proofs.Common.{[], ◌∷◌, ◌++◌}
 use Rattle.std.specs.Prelude.{codes, decimal}
 use Rattle.register_demo.specs.Marks.{digits_after}
 use Rattle.register_demo.proofs.Lines.{no-lines, put-number, put-text}

@@ -1,7 +1,6 @@
 use Rattle.std.proofs.Common.{[], ◌∷◌, ◌++◌, refl}
 use Rattle.std.specs.Prelude.{codes, decimal}
 use Rattle.register_demo.specs.Marks.{times}
-use Rattle.register_demo.specs.Summary.{verdict_lines}
 use Rattle.register_demo.proofs.Lines.{no-lines, put-number}
 use Rattle.register_demo.proofs.summary.put_verdicts.Goals as goal
 

@@ -1,4 +1,4 @@
-use Rattle.std.proofs.Common.{◌∙◌, ◌++◌, ap, rules, sym}
+use Rattle.std.proofs.Common.{◌∙◌, ◌++◌, ap}
 use Rattle.register_demo.specs.Summary.{delta_lines, lines_text, publication_lines, verdict_lines}
 use Rattle.register_demo.proofs.Lines.{three-parts}
 use Rattle.register_demo.proofs.summary.summary_of.Goals as goal

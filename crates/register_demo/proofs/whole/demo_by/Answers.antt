@@ -1,4 +1,4 @@
-use Rattle.std.proofs.Common.{◌≡◌, ◌∙◌, ap, refl, subst}
+use Rattle.std.proofs.Common.{subst}
 use Rattle.std.specs.Prelude.{IfOk, Result}
 use Rattle.lei_outside.specs.declared.faults.NoMemory.{NoMemory}
 use Rattle.lei_outside.specs.Memory.{tables_of}

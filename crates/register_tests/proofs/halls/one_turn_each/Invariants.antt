@@ -1,4 +1,4 @@
-use Rattle.std.proofs.Common.{◌≡◌, length}
+use Rattle.std.proofs.Common.{length}
 use Rattle.register_tests.proofs.PassNumbers.{Share}
 use Rattle.register_tests.proofs.halls.one_turn_each.Given as goal
 
