@@ -42,6 +42,10 @@ pub none_rise : IsStrictlySortedBy text_cmp []
 unfolding IsStrictlySortedBy
 none_rise = tt
 
+pub one_rises : (key : Text) → IsStrictlySortedBy text_cmp (key ∷ [])
+unfolding IsStrictlySortedBy
+one_rises key = (tt, tt)
+
 -- each key is below a key that comes after the last
 abbrev AreBelow : List Text → Text → Type 0
 AreBelow keys key = AllByRecursion (λ k. text_cmp k key ≡ Ordering.Less) keys

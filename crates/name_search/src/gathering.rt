@@ -145,7 +145,7 @@ fn gather_rising(
 {
     let mut gathered = nothing(alloc);
     for key in keys {
-        if let Some(row) = match_at(wanted, rows, &key.sought()) {
+        if let Some(row) = match_at(wanted, rows, &key.to_search_key()) {
             gathered.add(alloc, start, row)?;
         }
     }
@@ -180,7 +180,7 @@ fn gather_each(
     let count = keys.len();
     prove!(count <= usize::MAX / 2);
     for key in keys.iter() {
-        if let Some(row) = match_at(wanted, rows, &key.sought()) {
+        if let Some(row) = match_at(wanted, rows, &key.to_search_key()) {
             gathered.add(alloc, start, row)?;
         }
     }

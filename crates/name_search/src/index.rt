@@ -17,7 +17,7 @@ use crate::merging::{merge, named_puts, number_of};
 use crate::named_row::NamedRow;
 use crate::opening::noted_rows;
 use crate::postings::Postings;
-use crate::word::{Word, words_from};
+use crate::word::Word;
 use crate::words::words_of;
 use copy_csv::{CopyRead, DeltaRead};
 use lei_outside::{List, NoMemory};
@@ -148,14 +148,13 @@ impl Index {
         ensures no_word { IsErrOf result Finding.NoWord → words text.now ≡ [] }
         ensures too_many { IsErrOf result Finding.TooManyWords → 9 ≤ length (words text.now) }
     {
-        let texts = words_of(self.alloc, text)?;
-        if texts.is_empty() {
+        let wanted = words_of(self.alloc, text)?;
+        if wanted.is_empty() {
             return Err(FindFault::NoWord);
         }
-        if texts.len() > 8 {
+        if wanted.len() > 8 {
             return Err(FindFault::TooManyWords);
         }
-        let wanted = words_from(self.alloc, texts)?;
         let start = 50 * (u64::from(page) - 1);
         let gathered = self.gather(start, wanted.as_slice())?;
         Ok(Found {

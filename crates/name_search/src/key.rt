@@ -80,7 +80,7 @@ impl Key {
     }
 
     /// The key, to look for it.
-    pub fn sought(&self) -> SearchKey<'_>
+    pub fn to_search_key(&self) -> SearchKey<'_>
         ensures { result ≡ self.now }
     {
         let text = match &self.text {

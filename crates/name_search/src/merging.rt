@@ -54,8 +54,8 @@ pub fn named_puts<L: Ledger>(
 }
 
 /// Puts the rows as they are after the changes into a vector. The vector has room for the rows of a copy and for
-/// `puts`, the rows that the changes put. Removed rows go to another vector, each with the index of the row that
-/// replaced it, if one did. The function doesn't allocate memory.
+/// `puts`, the rows that the changes put. Removed rows go to another vector, each with the index at which a row that
+/// replaced it is. The function doesn't allocate memory.
 pub fn merge(
     out: &mut Vec<NamedRow>,
     rows: Vec<NamedRow>,

@@ -8,8 +8,8 @@ ghost use Rattle.name_search.specs.Searching as spec;
 ghost use Rattle.name_search.specs.Words.{words};
 
 use crate::key::Key;
-use crate::word::{Word, words_from};
-use crate::words::folded;
+use crate::word::Word;
+use crate::words::words_in_step;
 use copy_csv::{Row, Sheet};
 use lei_outside::{List, NoMemory, Text};
 use std::alloc::Global;
@@ -44,7 +44,7 @@ impl NamedRow {
         ensures value { IfOk result (λ made. made ≡ key_and_name row.now) }
         ensures steps { steps.new ≡ steps.old + 1 }
     {
-        let words = words_from(alloc, folded(alloc, text_of(row, 2), steps)?)?;
+        let words = words_in_step(alloc, text_of(row, 2), steps)?;
         let key = Key::copy_of(alloc, text_of(row, 1))?;
         let name = Text::copy_of(alloc, text_of(row, 2))?;
         Ok(NamedRow { key, name, words })

@@ -156,7 +156,7 @@ impl Postings {
         ensures { StaysFor rows.now self.old self.new }
     {
         let key = gone.key();
-        let row = row_near(rows, &key.sought(), place);
+        let row = row_near(rows, &key.to_search_key(), place);
         for word in gone.words() {
             if has_word(row, word.as_str()) {
                 continue;
@@ -179,27 +179,30 @@ fn push_first(
 {
     match first.get_mut(word) {
         Some(keys) => keys.push(key),
-        None => push_alone(alloc, first, word, key),
+        None => {
+            push_alone(alloc, first, word, key)?;
+            Ok(true)
+        }
     }
 }
 
-// The same for the first key of a word.
+// Puts a key into a new list under a word that has none.
+#[tactic(auto, using(crate::proofs::RisingLemmas::key_alone))]
 fn push_alone(
     alloc: Global,
     first: &mut BTreeMap<Word, RisingKeys>,
     word: &Word,
     key: &Key,
-) -> Result<bool, NoMemory>
+) -> Result<(), NoMemory>
     requires { get_by_word first.old word.now ≡ None }
     ensures stays { FirstStays first.old first.new }
-    ensures noted { IfOk result
-        (λ is. is ≡ true → is_one_of_keys key.now (rising_in (get_by_word first.new word.now)) ≡ true) }
+    ensures noted { OnOk result
+        (is_one_of_keys key.now (rising_in (get_by_word first.new word.now)) ≡ true) }
 {
-    let mut keys = RisingKeys::new(alloc);
-    let is_there = keys.push(key)?;
+    let keys = RisingKeys::of_one(alloc, key)?;
     let word = word.copy(alloc)?;
     first.insert(word, keys)?;
-    Ok(is_there)
+    Ok(())
 }
 
 // Adds a key to a word's set.

@@ -33,13 +33,13 @@ impl Model for RisingKeys {
 }
 
 impl RisingKeys {
-    /// No keys.
-    pub fn new(alloc: Global) -> Self
-        ensures { result ≡ [] }
+    /// A single key. Most words are in one name, so there is room for no more.
+    pub fn of_one(alloc: Global, key: &Key) -> Result<Self, NoMemory>
+        ensures { IfOk result (λ made. made ≡ key.now ∷ []) }
     {
-        RisingKeys {
-            keys: Vec::new(alloc),
-        }
+        let mut keys = Vec::with_capacity(alloc, 1)?;
+        keys.push_reserved(key.share()?);
+        Ok(RisingKeys { keys })
     }
 
     /// The keys as a slice.

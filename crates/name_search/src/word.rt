@@ -31,16 +31,17 @@ impl Model for Word {
     ghost invariant = { λ word. word.head ≡ head_of word.text };
 }
 
-impl From<Text> for Word {
-    ghost from_gives = { λ text word. word ≡ text };
-
-    fn from(text: Text) -> Self {
-        let head = head_of(text.as_str());
-        Word { head, text }
-    }
-}
-
 impl Word {
+    /// A word with these bytes, in its own memory.
+    pub fn copy_of(alloc: Global, text: &str) -> Result<Self, NoMemory>
+        ensures { IfOk result (λ word. word ≡ text.now) }
+    {
+        Ok(Word {
+            head: head_of(text),
+            text: Text::copy_of(alloc, text)?,
+        })
+    }
+
     /// A copy of the word in its own memory.
     pub fn copy(&self, alloc: Global) -> Result<Self, NoMemory>
         ensures { IfOk result (λ word. word ≡ self.now) }
@@ -56,6 +57,13 @@ impl Word {
         ensures { result.now ≡ self.now }
     {
         self.text.as_str()
+    }
+
+    // The text without its number.
+    fn into_text(self) -> Text
+        ensures { result ≡ self }
+    {
+        self.text
     }
 }
 
@@ -84,16 +92,16 @@ fn byte_at(bytes: &[u8], index: usize) -> u8
     bytes.get(index).copied().unwrap_or(0)
 }
 
-/// Texts as words, without a copy of the texts.
-pub fn words_from(alloc: Global, texts: List<Text>) -> Result<List<Word>, NoMemory>
-    ensures { IfOk result (λ words. words ≡ texts) }
+/// The texts of words.
+pub fn texts_of(alloc: Global, words: List<Word>) -> Result<List<Text>, NoMemory>
+    ensures { IfOk result (λ texts. texts ≡ words) }
 {
-    let texts = texts.into_vec();
-    let mut words = Vec::with_capacity(alloc, texts.len())?;
-    for text in texts {
-        words.push(Word::from(text))?;
+    let words = words.into_vec();
+    let mut texts = Vec::with_capacity(alloc, words.len())?;
+    for word in words {
+        texts.push(word.into_text())?;
     }
-    Ok(List::from(words))
+    Ok(List::from(texts))
 }
 
 impl PartialEq for Word {

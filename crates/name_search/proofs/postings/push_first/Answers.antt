@@ -12,5 +12,10 @@ returns-in-Some-clause-stays c =
     stays_updated rising_in c.args.first.now after c.args.word.now (Some c.push.new.self) ((c.get_mut.follows.holds c.push.new.self).3 (search rules))
     (λ k had. c.push.ensures.stay k (sym (ap (λ o. is_one_of_keys k (rising_in o)) was) ∙ had))
 
-pub returns-in-None-clause-stays : goal.returns-in-None-clause-stays
-returns-in-None-clause-stays c = subst (λ m. FirstStays m c.push_alone.new.first) c.get_mut.follows.holds-at-none c.push_alone.ensures.stays
+pub returns-in_ok-push_alone-in-None-clause-stays : goal.returns-in_ok-push_alone-in-None-clause-stays
+returns-in_ok-push_alone-in-None-clause-stays c =
+    subst (λ m. FirstStays m c.push_alone.new.first) c.get_mut.follows.holds-at-none c.push_alone.ensures.stays
+
+pub returns-in_err-push_alone-in-None-clause-stays : goal.returns-in_err-push_alone-in-None-clause-stays
+returns-in_err-push_alone-in-None-clause-stays c =
+    subst (λ m. FirstStays m c.push_alone.new.first) c.get_mut.follows.holds-at-none c.push_alone.ensures.stays

@@ -7,8 +7,8 @@ use Rattle.name_search.proofs.Cutting.{cut_at, cut_end, read_on}
 use Rattle.name_search.specs.Words.{is_word, word_pieces}
 use Rattle.name_search.proofs.words.cut.Goals as goal
 
-pub loop-c-preserved-in-Continue-1 : goal.loop-c-preserved-in-Continue-1
-loop-c-preserved-in-Continue-1 c =
+pub loop-c-preserved-in-Continue-branch-2 : goal.loop-c-preserved-in-Continue-branch-2
+loop-c-preserved-in-Continue-branch-2 c =
     let t = YieldsList-turn (YieldsList-from_chars c.args.text.now c.utf8.text cc) c.loop-c.yielded _ c.loop-c.yielded_by _ _ c.in-Some.c c.in-Some.is c.next.ensures.steps in
     cut_at _ _ _ _ _ _ _ c.in-Some.c _ c.loop-c.invariant t.0 t.1 (length_push c.loop-c.yielded c.in-Some.c) (sym c.is_separator.ensures ∙ c.if-is_separator.true)
     c.in_ok-put_word.ensures.words c.in_ok-put_word.ensures.word

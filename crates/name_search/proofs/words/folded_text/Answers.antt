@@ -4,8 +4,12 @@ use Rattle.std.specs.Str.{chars}
 use Rattle.std.proofs.lemmas.Str.{IsUtf8-string_bytes}
 use Rattle.caseless.specs.Caseless.{default_case_fold}
 use Rattle.name_search.specs.Words.{folded_chars}
-use Rattle.name_search.proofs.Folding.{folded-is}
+use Rattle.name_search.proofs.Folding.{folded-is, lowers_fold}
 use Rattle.name_search.proofs.words.folded_text.Goals as goal
+
+pub returns-then-is_ascii : goal.returns-then-is_ascii
+returns-then-is_ascii c =
+    lowers_fold c.args.text.now (string_bytes c.in_ok-to_ascii_lowercase.field-0) c.if-is_ascii.ensures.cases c.in_ok-to_ascii_lowercase.ensures.ok
 
 pub returns : goal.returns
 unfolding folded_chars
