@@ -59,7 +59,7 @@ LEFT = {
     "cell_reads.note_needs": "",
     "fetched_cells.Fetched::copy_cell": "err",
     "register_table.Table::apply": "err",
-    "upload_format.Reader::read": "—",
+    "upload_format.Reader::read_ready": "—",
     "upload_ledger.Ledger::reserve": "unchanged",
     "copy_csv.Reader::line": "read",
     "copy_csv.read_row": "read",
@@ -214,7 +214,8 @@ def refusals(call, enums):
     """What a call may return instead of its result, except for lack of memory."""
     if re.match(r"Option<", call.answer):
         return ["None"]
-    for name in re.findall(r"\w+", call.answer):
+    # What a list holds says nothing of how the call ended.
+    for name in re.findall(r"\w+", re.sub(r"\bVec<\w+>", "", call.answer)):
         if name in enums and enums[name][0] in OUTCOMES:
             return [variant for variant, _ in enums[name][1] if variant != "NoMemory"]
     if not (found := re.match(r"(?:\(.*, )?(?:io::)?Result<.*, ([^,]+?)>\)?$", call.answer)):

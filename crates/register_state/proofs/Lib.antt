@@ -4,4 +4,3 @@ pub mod Outcomes
 pub mod Shelved
 pub mod Settling
 pub mod Planned
-pub mod InThreads

@@ -1,7 +1,9 @@
 -- Uploads whose items were judged, in their turn or ahead of it.
-use Rattle.std.proofs.Common.{◌≡◌, ◌≤◌, ◌+◌, ◌||◌, ℕ, ℤ, List, map, Bool, false, cond, length, Result, Ok, refl, sym, ap, subst, ◌∙◌}
+use Rattle.std.proofs.Common.{◌≡◌, ◌≤◌, ◌+◌, ◌||◌, ℕ, ℤ, List, map, Bool, false, cond, length, Option, IfSome, Result, Ok, Err, Vec, Global, refl, sym, ap, subst, ◌∙◌}
 use Rattle.std.proofs.lemmas.List.{length-map}
+use Rattle.std.specs.Result.{result_ok}
 use Rattle.cell_reads.specs.Reads.{Agrees}
+use Rattle.lei_code.specs.Texts.{Body}
 use Rattle.lei_outside.specs.declared.entry.KeptEntry.{KeptEntry}
 use Rattle.lei_records.specs.Items.{ready}
 use Rattle.lei_records.specs.Tables.{IsSoundTable, Table, record_count}
@@ -30,11 +32,21 @@ use Rattle.register_words.specs.declared.reply.Refusal.TheVariants.{LedgerFull}
 use Rattle.register_words.specs.declared.reply.Reply.TheVariants.{Words}
 use Rattle.register_words.specs.declared.request.Call.{Call}
 use Rattle.register_words.specs.declared.request.Request.TheVariants.{Upload}
-use Rattle.upload_format.specs.Bodies.{upload}
+use Rattle.upload_format.specs.Bodies.{BodyGives, ready_upload, upload}
+use Rattle.upload_format.specs.declared.fault.UploadFault.{UploadFault}
+use Rattle.upload_format.proofs.Ready.{ready-raws}
 use Rattle.register_history.specs.declared.terms.EntryTerms.{EntryTerms}
 use Rattle.lei_records.specs.RuleNumbers.{newest, rules_of}
 
 -- ---- the items of a body
+
+-- the items of a body that was read
+pub items_read : (call : Call) (read : Result (Vec Readied Global) UploadFault) (found : Option (Vec Readied Global)) (body : Body) → body ≡ call.body
+    → BodyGives (λ items. items.items) read (ready_upload newest body) → found ≡ result_ok read → IfSome found (λ items. AreItemsOf call items.items)
+items_read call (Ok items) found body same reads is =
+    let raws = ready-raws newest call.body items.items (ap (ready_upload newest) (sym same) ∙ reads) in
+    rw is (record { raws = raws.0; reads = raws.1; are = raws.2 })
+items_read call (Err fault) found body same reads is = rw is tt
 
 -- a body has at most 5,000 items
 pub few_items : (call : Call) (items : List Readied) → AreItemsOf call items → length items ≤ 5000

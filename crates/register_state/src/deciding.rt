@@ -19,7 +19,7 @@ ghost use Rattle.register_history.specs.Register.{after};
 use crate::books::Books;
 use crate::decision::{Decision, refuse};
 use crate::entries::{accreditation, taken_upload};
-use crate::judge::{is_usable, judge, ready_all};
+use crate::judge::{is_usable, judge};
 use crate::publishing::{copy, delta};
 use answer_texts::status_text;
 use copy_forms::item_text;
@@ -229,15 +229,14 @@ impl Books {
             (body_outcome self.now call.now terms.now (items_of call.now.body)) result }
         ensures next { AddsNext self.now (Upload call.now) result }
     {
-        let upload = match reader.read(self.alloc, call.body.as_slice()) {
-            Ok(upload) => upload,
+        let items = match reader.read_ready(rt, self.alloc, terms.rules, call.body.as_slice()) {
+            Ok(items) => items,
             Err(UploadFault::Malformed(fault)) => return Ok(refuse(Refusal::Malformed(fault))),
             Err(UploadFault::NoMemory) => return Err(NoMemory),
         };
         if self.is_full() || self.is_too_much(call.body.as_slice()) {
             return Ok(refuse(Refusal::LedgerFull));
         }
-        let items = ready_all(rt, self.alloc, terms.rules, upload.items.as_slice())?;
         let sitting = sitting(self.limits.records, call, terms);
         let judged = judge(self.alloc, &self.table, &sitting, items.as_slice())?;
         self.add_judged(call, judged, terms)

@@ -3,7 +3,6 @@ ghost use Rattle.std.specs.Prelude.{IfSome};
 ghost use Rattle.register_state.specs.Planning.{AreItemsOf, IsPlanOf};
 
 use crate::entries::RULES;
-use crate::judge::ready_all;
 use lei_records::{Readied, View};
 use lei_shapes::{Moment, day_number};
 use register_judge::{Plan, Verdict, judge_all};
@@ -18,10 +17,9 @@ pub fn items_of<R: Threads + Sync>(rt: &R, alloc: Global, call: &Call) -> Option
     ensures { IfSome result (λ items. AreItemsOf call.now items.items) }
 {
     let mut reader = Reader::new(alloc);
-    let Ok(upload) = reader.read(alloc, call.body.as_slice()) else {
-        return None;
-    };
-    ready_all(rt, alloc, RULES, upload.items.as_slice()).ok()
+    reader
+        .read_ready(rt, alloc, RULES, call.body.as_slice())
+        .ok()
 }
 
 /// A plan of an upload by the newest rules, judged on what a view has of a table. There is none if the view lacks a

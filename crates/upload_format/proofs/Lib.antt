@@ -3,3 +3,5 @@ pub mod Members
 pub mod Values
 pub mod OrderedLemmas
 pub mod JsonTexts
+pub mod InThreads
+pub mod Ready

@@ -1,5 +1,5 @@
 -- Loops that turn one list into another, item by item: what was found so far, and what the rest gives.
-use Rattle.std.proofs.Common.{◌≡◌, ℕ, List, [], ◌∷◌, ◌++◌, map, Option, Some, None, option_map, option_and_then, unwrap_or, Ok, String, Global, Less, Bool, ◌&&◌, refl, sym, subst, ap, ◌∙◌, rules, append_assoc}
+use Rattle.std.proofs.Common.{◌≡◌, ℕ, List, [], ◌∷◌, ◌++◌, map, Option, Some, None, option_map, Ok, String, Global, Less, Bool, ◌&&◌, refl, sym, subst, ap, ◌∙◌, rules, append_assoc}
 use Rattle.std.proofs.lemmas.List.{map-append}
 use Rattle.std.proofs.lemmas.Grind.{common_steps}
 use Rattle.std.specs.Prelude.{string_bytes}

@@ -1,5 +1,5 @@
 -- What an upload's body says, defined over the JSON value of its bytes (RFC 8259).
-use Rattle.std.specs.Prelude.{◌≡◌, ℕ, List, [], ◌∷◌, ◌++◌, length, codes, Bool, ◌||◌, ◌==◌, nat_lt, if◌then◌else◌, Option, Some, None, option_map, option_and_then, Result, Ok, Err}
+use Rattle.std.specs.Prelude.{◌≡◌, ℕ, List, [], ◌∷◌, ◌++◌, length, map, codes, Bool, ◌||◌, ◌==◌, nat_lt, if◌then◌else◌, Option, Some, None, option_map, option_and_then, Result, Ok, Err}
 use Rattle.std.specs.List.{list_all}
 use Rattle.std.specs.Str.{is_utf8, bytes_eq}
 use Rattle.serde_json.specs.Data.{Data, Items, no_items, item, Members, no_members, member}
@@ -12,6 +12,9 @@ use Rattle.upload_format.specs.declared.fault.UploadFault.{UploadFault}
 use Rattle.upload_format.specs.declared.fault.UploadFault.TheVariants as faults
 use Rattle.lei_records.specs.declared.fields.Kind.{Kind}
 use Rattle.lei_records.specs.declared.item.RawItem.{RawItem}
+use Rattle.lei_records.specs.declared.item.Readied.{Readied}
+use Rattle.lei_records.specs.declared.rules.Rules.{Rules}
+use Rattle.lei_records.specs.Items.{ready}
 
 -- The value of the bytes, if they are UTF-8 and JSON. If an object repeats a name, the last value counts.
 unfoldable pub value_of : Body → Option Data
@@ -92,7 +95,7 @@ abbrev pub item_limit : ℕ
 item_limit = 5_000
 
 -- the items, if there is at least 1 and at most as many as an upload may have, or else the fault
-abbrev pub if_countable : List RawItem → Result (List RawItem) Malformed
+abbrev pub if_countable : {X : Type 0} → List X → Result (List X) Malformed
 if_countable items =
     if length items == 0 then Err NoItems else
     (if nat_lt item_limit (length items) then Err TooManyItems else Ok items)
@@ -110,6 +113,16 @@ of_value (Some value) = of_items (upload_items value)
 -- The items of a body, or the first of the four faults that it has.
 unfoldable pub upload : Body → Result (List RawItem) Malformed
 upload body = of_value (value_of body)
+
+-- the items after the checks of their fields by these rules, or the fault
+abbrev pub ready_each : Rules → Result (List RawItem) Malformed → Result (List Readied) Malformed
+ready_each rules (Ok items) = Ok (map (ready rules) items)
+ready_each rules (Err fault) = Err fault
+
+-- The items of a body after the checks of their fields by these rules, or the first of the four faults that the body
+-- has.
+abbrev pub ready_upload : Rules → Body → Result (List Readied) Malformed
+ready_upload rules body = ready_each rules (upload body)
 
 -- ---- what a reader returns: exactly the items or the fault, unless memory ran out
 

@@ -6,6 +6,8 @@ mod fault;
 mod items;
 mod ordered;
 mod reading;
+mod readying;
+mod threads;
 
 pub use fault::UploadFault;
 pub use reading::{MAX_ITEMS, Reader, read_upload};

@@ -1,44 +1,58 @@
-//! Reads the items of a body from its tokens, without a tree of its values. It reads uploads whose items have their
-//! names in byte order.
-ghost use Rattle.std.specs.Prelude.{◌≡◌, ◌++◌, ◌∷◌, [], ℕ, List as Listed, IfOk, IfSome, IsTrue, Some, option_and_then};
-ghost use Rattle.json.specs.Find.{InItems, InMembers};
+//! Reads and checks the items of a body from its tokens, without a tree of its values. It reads uploads whose items
+//! have their names in byte order.
+ghost use Rattle.std.specs.Prelude.{◌≡◌, ◌≤◌, ◌++◌, ◌∷◌, [], ℕ, List as Listed, IfOk, IfSome, IsTrue, None, Some, map, option_and_then, option_map};
+ghost use Rattle.std.specs.List.{AllZip};
+ghost use Rattle.json.specs.Find.{InMembers};
 ghost use Rattle.json.specs.Json as spec;
+ghost use Rattle.lei_records.specs.Items.{ready as ready_of};
 ghost use Rattle.lei_records.specs.Names.{NamesRise};
+ghost use Rattle.lei_records.specs.RuleNumbers.{rules_of};
 ghost use Rattle.lei_records.specs.declared.fields.Kind.{Kind};
-ghost use Rattle.upload_format.specs.Bodies;
 ghost use Rattle.upload_format.specs.Bodies.{list_name, upload_items, value_of};
-ghost use Rattle.upload_format.specs.Ordered.{AreFields, AreItems, AreLists, list_with};
+ghost use Rattle.upload_format.specs.Ordered.{AddsList, AreFields, AreListed, AreLists, IsReadAs, list_under, list_with};
 
 use crate::items::raw_item;
-use json::{Error, Items, Members, Scratch, Tape};
+use crate::threads::map_items;
+use json::{Element, Error, Items, Members, Scratch, Tape};
 use lei_outside::NoMemory;
-use lei_records::{Fields, Kind, RawItem};
+use lei_records::{Fields, Kind, Readied, ready_by};
 use std::alloc::Global;
+use std::thread::Threads;
 
-// The items of a body, if it is an upload whose items have their names in byte order. `None` says nothing about the
-// body.
+// The items of a body after the checks of their fields by the rules of this number. The body is an upload that repeats
+// no list, and its items have their names in byte order. `None` says nothing about the body.
 #[tactic(auto, unfolding(crate::specs::Bodies::value_of))]
-pub fn read_ordered(
+pub fn ready_ordered<R: Threads + Sync>(
+    rt: &R,
     alloc: Global,
     scratch: &mut Scratch,
+    rules: u16,
     body: &[u8],
-) -> Result<Option<Vec<RawItem>>, NoMemory>
+) -> Result<Option<Vec<Readied>>, NoMemory>
+    requires first { 1 ≤ rules }
+    requires last { rules ≤ 3 }
     ensures { IfOk result (λ read. IfSome read
-        (λ items. option_and_then upload_items (value_of body.now) ≡ Some items.items)) }
+        (λ items. option_map (map (ready_of (rules_of rules)))
+        (option_and_then upload_items (value_of body.now)) ≡ Some items.items)) }
 {
     let Ok(text) = simdutf8::basic::from_utf8(body) else {
         return Ok(None);
     };
-    read_text(alloc, scratch, text)
+    ready_text(rt, alloc, scratch, rules, text)
 }
 
-fn read_text(
+fn ready_text<R: Threads + Sync>(
+    rt: &R,
     alloc: Global,
     scratch: &mut Scratch,
+    rules: u16,
     text: &str,
-) -> Result<Option<Vec<RawItem>>, NoMemory>
+) -> Result<Option<Vec<Readied>>, NoMemory>
+    requires first { 1 ≤ rules }
+    requires last { rules ≤ 3 }
     ensures { IfOk result (λ read. IfSome read
-        (λ items. option_and_then upload_items (value_of text.now) ≡ Some items.items)) }
+        (λ items. option_map (map (ready_of (rules_of rules)))
+        (option_and_then upload_items (value_of text.now)) ≡ Some items.items)) }
 {
     let tape = match Tape::parse(text, scratch, Vec::new(alloc)) {
         Ok(tape) => tape,
@@ -48,59 +62,36 @@ fn read_text(
     let Some(members) = tape.root().members() else {
         return Ok(None);
     };
-    match read_lists(alloc, members)? {
-        Some(lists) => Ok(Some(all_items(lists)?)),
-        None => Ok(None),
-    }
+    let Some(lists) = lists_of(members) else {
+        return Ok(None);
+    };
+    let values = values_of(alloc, lists)?;
+    ready_values(rt, alloc, rules, values.as_slice())
 }
 
-// The items of an upload's three lists. An absent list has no items.
+// The lists of an upload, each of which may be absent.
 #[derive(Drop)]
-struct Lists {
-    records: Vec<RawItem>,
-    relations: Vec<RawItem>,
-    exceptions: Vec<RawItem>,
+struct Lists<'t, 'a> {
+    records: Option<Items<'t, 'a>>,
+    relationships: Option<Items<'t, 'a>>,
+    exceptions: Option<Items<'t, 'a>>,
 }
 
-// The items of the lists, one list after another.
-fn all_items(lists: Lists) -> Result<Vec<RawItem>, NoMemory>
-    ensures { IfOk result (λ items. items.items
-        ≡ lists.records.items ++ lists.relations.items ++ lists.exceptions.items) }
-{
-    let Lists {
-        records: mut items,
-        mut relations,
-        mut exceptions,
-    } = lists;
-    items.append(&mut relations)?;
-    items.append(&mut exceptions)?;
-    Ok(items)
-}
-
-// The lists of an upload's members. If a list is repeated, the last one counts.
-fn read_lists(alloc: Global, members: Members<'_, '_>) -> Result<Option<Lists>, NoMemory>
-    ensures { IfOk result (λ read. IfSome read (λ lists. (ms : spec.Members) → InMembers members.entry ms
-        → AreLists ms lists.records.items lists.relations.items lists.exceptions.items)) }
+// The lists of an upload's members, if none is repeated.
+fn lists_of<'t, 'a>(members: Members<'t, 'a>) -> Option<Lists<'t, 'a>>
+    ensures { IfSome result (λ lists. (ms : spec.Members) → InMembers members.entry ms
+        → AreLists ms (list_under lists)) }
 {
     let mut members = members;
     let mut lists = Lists {
-        records: Vec::new(alloc),
-        relations: Vec::new(alloc),
-        exceptions: Vec::new(alloc),
+        records: None,
+        relationships: None,
+        exceptions: None,
     };
     while let Some((name, value)) = members.next() {
-        let Some(kind) = kind_of(name) else {
-            return Ok(None);
-        };
-        let Some(items) = value.items() else {
-            return Ok(None);
-        };
-        let Some(read) = read_list(alloc, kind, items)? else {
-            return Ok(None);
-        };
-        lists = with_list(lists, kind, read);
+        lists = with_list(lists, kind_of(name)?, value.items()?)?;
     }
-    Ok(Some(lists))
+    Some(lists)
 }
 
 // The kind of the items in the list with this name.
@@ -115,47 +106,136 @@ fn kind_of(name: &str) -> Option<Kind>
     }
 }
 
-// The lists, with the one of this kind replaced.
-fn with_list(lists: Lists, kind: Kind, read: Vec<RawItem>) -> Lists
-    ensures records { result.records ≡ list_with Kind.Record kind read lists.records }
-    ensures relations { result.relations ≡ list_with Kind.Relation kind read lists.relations }
-    ensures exceptions { result.exceptions ≡ list_with Kind.Exception kind read lists.exceptions }
+// The lists with one more. `None` is returned if there is a list of this kind already.
+fn with_list<'t, 'a>(
+    lists: Lists<'t, 'a>,
+    kind: Kind,
+    items: Items<'t, 'a>,
+) -> Option<Lists<'t, 'a>>
+    ensures first { IfSome result (λ made. list_under lists.entry kind ≡ None) }
+    ensures lists { IfSome result (λ made. (own : Kind)
+        → list_under made own ≡ list_with own kind (Some items.entry) (list_under lists.entry own)) }
 {
     match kind {
-        Kind::Record => Lists {
-            records: read,
+        Kind::Record if lists.records.is_none() => Some(Lists {
+            records: Some(items),
             ..lists
-        },
-        Kind::Relation => Lists {
-            relations: read,
+        }),
+        Kind::Relation if lists.relationships.is_none() => Some(Lists {
+            relationships: Some(items),
             ..lists
-        },
-        Kind::Exception => Lists {
-            exceptions: read,
+        }),
+        Kind::Exception if lists.exceptions.is_none() => Some(Lists {
+            exceptions: Some(items),
             ..lists
-        },
+        }),
+        _ => None,
     }
 }
 
-// The items of a list.
-fn read_list(
-    alloc: Global,
+// A value in the list of a kind.
+#[derive(Drop)]
+struct ItemValue<'t, 'a> {
     kind: Kind,
-    values: Items<'_, '_>,
-) -> Result<Option<Vec<RawItem>>, NoMemory>
-    ensures { IfOk result (λ read. IfSome read (λ items. (js : spec.Items) → InItems values.entry js
-        → AreItems kind js items.items)) }
+    value: Element<'t, 'a>,
+}
+
+// The values of the lists, one list after another.
+fn values_of<'t, 'a>(
+    alloc: Global,
+    lists: Lists<'t, 'a>,
+) -> Result<Vec<ItemValue<'t, 'a>>, NoMemory>
+    ensures { IfOk result (λ values. AreListed (list_under lists.entry) values.items) }
 {
+    let values = Vec::new(alloc);
+    let values = push_list(values, Kind::Record, lists.records)?;
+    let values = push_list(values, Kind::Relation, lists.relationships)?;
+    push_list(values, Kind::Exception, lists.exceptions)
+}
+
+// The values so far, followed by those of a list.
+fn push_list<'t, 'a>(
+    values: Vec<ItemValue<'t, 'a>>,
+    kind: Kind,
+    list: Option<Items<'t, 'a>>,
+) -> Result<Vec<ItemValue<'t, 'a>>, NoMemory>
+    ensures { IfOk result (λ made. AddsList kind list.entry values.entry.items made.items) }
+{
+    match list {
+        Some(items) => push_items(values, kind, items),
+        None => Ok(values),
+    }
+}
+
+fn push_items<'t, 'a>(
+    values: Vec<ItemValue<'t, 'a>>,
+    kind: Kind,
+    items: Items<'t, 'a>,
+) -> Result<Vec<ItemValue<'t, 'a>>, NoMemory>
+    ensures { IfOk result (λ made. AddsList kind (Some items.entry) values.entry.items made.items) }
+{
+    let mut items = items;
     let mut values = values;
-    let mut items = Vec::new(alloc);
-    while let Some(value) = values.next() {
-        let Some(members) = value.members() else {
+    while let Some(value) = items.next() {
+        values.push(ItemValue { kind, value })?;
+    }
+    Ok(values)
+}
+
+// Reads the items and checks their fields, in several threads if there are many. `None` is returned if one of the
+// values isn't an object of texts whose names rise in byte order.
+fn ready_values<R: Threads + Sync>(
+    rt: &R,
+    alloc: Global,
+    rules: u16,
+    values: &[ItemValue<'_, '_>],
+) -> Result<Option<Vec<Readied>>, NoMemory>
+    requires first { 1 ≤ rules }
+    requires last { rules ≤ 3 }
+    ensures { IfOk result (λ read. IfSome read
+        (λ items. AllZip (IsReadAs (rules_of rules)) values.now items.items)) }
+{
+    let read = map_items(
+        rt,
+        alloc,
+        values,
+        |value: &ItemValue<'_, '_>| -> Result<Option<Readied>, NoMemory>
+            requires { 1 ≤ rules × rules ≤ 3 }
+            ensures { IfOk result (λ read. IfSome read (IsReadAs (rules_of rules) value.now)) }
+        { ready_value(alloc, rules, value) },
+    )?;
+    all_some(alloc, read)
+}
+
+// The item of a value after the checks of its fields. As it was sent it lives only until then.
+fn ready_value(
+    alloc: Global,
+    rules: u16,
+    value: &ItemValue<'_, '_>,
+) -> Result<Option<Readied>, NoMemory>
+    requires first { 1 ≤ rules }
+    requires last { rules ≤ 3 }
+    ensures { IfOk result (λ read. IfSome read (IsReadAs (rules_of rules) value.now)) }
+{
+    let Some(members) = value.value.members() else {
+        return Ok(None);
+    };
+    let Some(fields) = read_fields(alloc, members)? else {
+        return Ok(None);
+    };
+    Ok(Some(ready_by(alloc, rules, &raw_item(value.kind, fields))?))
+}
+
+// The items, if each was read.
+fn all_some(alloc: Global, read: Vec<Option<Readied>>) -> Result<Option<Vec<Readied>>, NoMemory>
+    ensures { IfOk result (λ all. IfSome all (λ items. read.items ≡ map Some items.items)) }
+{
+    let mut items = Vec::with_capacity(alloc, read.len())?;
+    for item in read {
+        let Some(item) = item else {
             return Ok(None);
         };
-        let Some(fields) = read_fields(alloc, members)? else {
-            return Ok(None);
-        };
-        items.push(raw_item(kind, fields))?;
+        items.push(item)?;
     }
     Ok(Some(items))
 }

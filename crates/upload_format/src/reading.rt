@@ -1,22 +1,25 @@
 //! Reads the bodies of uploads as lists of items.
-ghost use Rattle.std.specs.Prelude.{◌≡◌, ℕ, List, false, Some, option_map};
+ghost use Rattle.std.specs.Prelude.{◌≡◌, ◌≤◌, ℕ, List, false, Some, option_map};
 ghost use Rattle.std.specs.Str.{bytes_eq};
 ghost use Rattle.std.specs.List.{list_all};
 ghost use Rattle.serde_json.specs.Find.{as_str, get_member};
 ghost use Rattle.serde_json.specs.View.{view, members_view, items_view};
+ghost use Rattle.lei_records.specs.RuleNumbers.{rules_of};
 ghost use Rattle.lei_records.specs.declared.fields.Kind.{Kind};
 ghost use Rattle.upload_format.specs.Bodies;
-ghost use Rattle.upload_format.specs.Bodies.{BodyGives, append_read, items_in_value, items_of_lists, items_under, list_name, list_of, member_names, or_no_json, or_no_upload, raw_item_of, text_members, upload, upload_items, value_of};
+ghost use Rattle.upload_format.specs.Bodies.{BodyGives, append_read, if_countable, items_in_value, items_of_lists, items_under, list_name, list_of, member_names, or_no_json, or_no_upload, raw_item_of, ready_upload, text_members, upload, upload_items, value_of};
 
 use crate::fault::UploadFault;
 use crate::items::raw_item;
-use crate::ordered::read_ordered;
+use crate::ordered::ready_ordered;
+use crate::readying::ready_all;
 use json::Scratch;
 use lei_outside::{List, Text};
-use lei_records::{Fields, Kind, RawItem, Upload};
+use lei_records::{Fields, Kind, RawItem, Readied, Upload};
 use register_words::Malformed;
 use serde_json::{Map, Value};
 use std::alloc::Global;
+use std::thread::Threads;
 
 /// The greatest number of items in an upload. This project's profile.
 pub const MAX_ITEMS: usize = 5000;
@@ -26,11 +29,14 @@ pub const MAX_ITEMS: usize = 5000;
 /// value counts. An upload has from 1 to [`MAX_ITEMS`] items in all. The records are returned first, then the
 /// relationships, then the exceptions, each in the order in which they were sent. Names and texts are copied into the
 /// items.
+#[tactic(auto, unfolding(crate::specs::Bodies::upload))]
 pub fn read_upload(alloc: Global, body: &[u8]) -> Result<Upload, UploadFault>
     ensures { BodyGives (λ read. read.items) result (upload body.now) }
 {
-    let mut reader = Reader::new(alloc);
-    reader.read(alloc, body)
+    let items = read_tree(alloc, body)?;
+    Ok(Upload {
+        items: List::from(countable(items)?),
+    })
 }
 
 /// Reads bodies one after another, in memory that it keeps: about five bytes for each byte of the longest one. It
@@ -48,34 +54,57 @@ impl Reader {
         }
     }
 
-    /// Reads a body as [`read_upload`] does.
-    #[tactic(auto, unfolding(crate::specs::Bodies::upload))]
-    pub fn read(&mut self, alloc: Global, body: &[u8]) -> Result<Upload, UploadFault>
-        ensures { BodyGives (λ read. read.items) result (upload body.now) }
+    /// Reads a body as [`read_upload`] does, and checks the fields of its items as `ready_by` of `lei_records` does, by
+    /// the rules of this number. If there are many items, both are done in several threads. If the items have their
+    /// names in byte order and no list is repeated, no tree of values is built.
+    pub fn read_ready<R: Threads + Sync>(
+        &mut self,
+        rt: &R,
+        alloc: Global,
+        rules: u16,
+        body: &[u8],
+    ) -> Result<Vec<Readied>, UploadFault>
+        requires first { 1 ≤ rules }
+        requires last { rules ≤ 3 }
+        ensures { BodyGives (λ items. items.items) result (ready_upload (rules_of rules) body.now) }
     {
-        let items = read_body(alloc, &mut self.scratch, body)?;
-        if items.is_empty() {
-            return Err(UploadFault::Malformed(Malformed::NoItems));
+        match ready_ordered(rt, alloc, &mut self.scratch, rules, body)? {
+            Some(items) => countable(items),
+            None => ready_tree(rt, alloc, rules, body),
         }
-        if items.len() > MAX_ITEMS {
-            return Err(UploadFault::Malformed(Malformed::TooManyItems));
-        }
-        Ok(Upload {
-            items: List::from(items),
-        })
     }
 }
 
-// The items of a body before they are counted. If they have their names in byte order, no tree of values is built.
-fn read_body(alloc: Global, scratch: &mut Scratch, body: &[u8]) -> Result<Vec<RawItem>, UploadFault>
-    ensures { BodyGives (λ items. items.items) result (items_in_value (value_of body.now)) }
+// The same, by a tree of values.
+fn ready_tree<R: Threads + Sync>(
+    rt: &R,
+    alloc: Global,
+    rules: u16,
+    body: &[u8],
+) -> Result<Vec<Readied>, UploadFault>
+    requires first { 1 ≤ rules }
+    requires last { rules ≤ 3 }
+    ensures { BodyGives (λ items. items.items) result (ready_upload (rules_of rules) body.now) }
 {
-    match read_ordered(alloc, scratch, body)? {
-        Some(items) => Ok(items),
-        None => read_tree(alloc, body),
-    }
+    let upload = read_upload(alloc, body)?;
+    let items = ready_all(rt, alloc, rules, upload.items.as_slice())?;
+    Ok(items)
 }
 
+// The items, if there are as many as an upload may have.
+fn countable<T: Drop>(items: Vec<T>) -> Result<Vec<T>, UploadFault>
+    ensures { BodyGives (λ items. items.items) result (if_countable items.items) }
+{
+    if items.is_empty() {
+        return Err(UploadFault::Malformed(Malformed::NoItems));
+    }
+    if items.len() > MAX_ITEMS {
+        return Err(UploadFault::Malformed(Malformed::TooManyItems));
+    }
+    Ok(items)
+}
+
+// The items of a body before they are counted.
 fn read_tree(alloc: Global, body: &[u8]) -> Result<Vec<RawItem>, UploadFault>
     ensures { BodyGives (λ items. items.items) result (items_in_value (value_of body.now)) }
 {

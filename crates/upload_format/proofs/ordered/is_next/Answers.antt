@@ -1,4 +1,4 @@
-use Rattle.std.proofs.Common.{rules, arith, ◌-◌, length}
+use Rattle.std.proofs.Common.{rules}
 use Rattle.upload_format.proofs.OrderedLemmas.{rising_one, rising_push}
 use Rattle.upload_format.proofs.ordered.is_next.Goals as goal
 

@@ -1,4 +1,4 @@
-use Rattle.std.proofs.Common.{◌∙◌, ap, option_map, rules, subst, sym, IsTrue}
+use Rattle.std.proofs.Common.{ap, option_map, rules, subst, sym, IsTrue}
 use Rattle.json.specs.Find.{NextMember}
 use Rattle.serde_json.specs.Read.{of_members}
 use Rattle.upload_format.specs.Ordered.{members_with_texts}

@@ -1,7 +1,7 @@
-use Rattle.std.proofs.Common.{sym, ap, ◌∙◌, ◌++◌, ◌∷◌, []}
+use Rattle.std.proofs.Common.{sym, ap, ◌∙◌}
 use Rattle.serde_json.specs.View.{members_view}
 use Rattle.upload_format.specs.Bodies.{text_members}
-use Rattle.upload_format.proofs.Loops.{fields_step, names_step, names_with, rising_step, with_front, with_front-end}
+use Rattle.upload_format.proofs.Loops.{fields_step, names_step, names_with, rising_step, with_front}
 use Rattle.upload_format.proofs.reading.read_fields.Goals as goal
 
 pub with-requires : goal.with-requires
