@@ -2,6 +2,7 @@
 """Measures `search csv COPY` over golden copies of 100,000 and of 500,000 names, in memory: how long opening takes and how much
 memory a row, and how long each query takes, from the query's last byte to the reply's: a FIND of two words of which each has
 fewer than 1,000 names, one whose first word is in every name, one of a word that no name has, and a TAKE of 5,000 changes.
+Openings and TAKE are measured by turns, and the least of each counts.
 The names have four words each: one that all have, one of 200, one of a thousandth of them, and a number.
 
 The program is proved first, by `./leireg`, or its path is the first word."""
@@ -17,8 +18,9 @@ from table import PROGRAM, ROOT, code
 
 SIZES = [100_000, 500_000]
 CHANGES = 5_000
-RUNS = 3
+RUNS = 5
 FINDS = 200
+TEXTS = [("two rare words", "town7 trade7"), ("a common and a rare word", "company trade7"), ("an unknown word", "nobody")]
 
 
 def name(number, rows):
@@ -67,14 +69,29 @@ class Search:
             sys.exit(f"{query[:40]!r} got {reply!r}")
         return reply, time.perf_counter() - start
 
-    def close(self):
-        """The memory that it had at most."""
+    def peak(self):
+        """The memory that it had at most so far."""
         with open(f"/proc/{self.process.pid}/status") as status:
-            peak = next(int(each.split()[1]) * 1024 for each in status if each.startswith("VmHWM"))
+            return next(int(each.split()[1]) * 1024 for each in status if each.startswith("VmHWM"))
+
+    def find(self, text):
+        """How many names the FIND of a text finds, and how long it takes."""
+        took = sorted(self.ask(f"FIND 1 {text}\n".encode()) for _ in range(FINDS))
+        seconds = sorted(second for _, second in took)
+        return f"{matches(took[0][0])} found: {seconds[FINDS // 2] * 1e6:.0f} µs, at most {seconds[-1] * 1e6:.0f} µs"
+
+    def take(self, packet, left):
+        """The seconds that the TAKE of a packet takes, which leaves so many rows."""
+        reply, seconds = self.ask(b"TAKE %d\n" % len(packet) + packet)
+        expected = b'200 {"rows":%d}\n' % left
+        if reply != expected:
+            sys.exit(f"TAKE got {reply!r}, not {expected!r}")
+        return seconds
+
+    def close(self):
         self.process.stdin.close()
         if self.process.wait():
             sys.exit(f"the search ended with {self.process.returncode}")
-        return peak
 
 
 def matches(reply):
@@ -84,27 +101,19 @@ def matches(reply):
 def measure(path, rows):
     write_copy(path, rows)
     size = os.path.getsize(path)
-    openings, memories = [], []
+    packet = delta(rows)
+    openings, memories, takes = [], [], []
     for _ in range(RUNS):
         search = Search(path)
         openings.append(search.opening)
-        memories.append(search.close())
-    opening = min(openings)
+        memories.append(search.peak())
+        finds = [f"  FIND of {what}, {search.find(text)}" for what, text in TEXTS]
+        takes.append(search.take(packet, rows - CHANGES // 10))
+        search.close()
+    opening, memory, taking = min(openings), min(memories), min(takes)
     print(f"{rows} names, {size / 1e6:.0f} MB: opening {opening:.2f} s, {size / opening / 1e6:.0f} MB/s; "
-          f"{min(memories) / 1e6:.0f} MB of memory at most, {min(memories) / rows:.0f} bytes a row")
-    search = Search(path)
-    for what, text in [("two rare words", "town7 trade7"), ("a common and a rare word", "company trade7"), ("an unknown word", "nobody")]:
-        query = f"FIND 1 {text}\n".encode()
-        took = sorted(search.ask(query) for _ in range(FINDS))
-        seconds = sorted(second for _, second in took)
-        print(f"  FIND of {what}, {matches(took[0][0])} found: {seconds[FINDS // 2] * 1e6:.0f} µs, at most {seconds[-1] * 1e6:.0f} µs")
-    packet = delta(rows)
-    reply, seconds = search.ask(b"TAKE %d\n" % len(packet) + packet)
-    expected = b'200 {"rows":%d}\n' % (rows - CHANGES // 10)
-    if reply != expected:
-        sys.exit(f"TAKE got {reply!r}, not {expected!r}")
-    print(f"  TAKE of {CHANGES} changes: {seconds * 1e3:.0f} ms, {seconds / opening:.3f} of opening")
-    search.close()
+          f"{memory / 1e6:.0f} MB of memory at most, {memory / rows:.0f} bytes a row", *finds,
+          f"  TAKE of {CHANGES} changes: {taking * 1e3:.0f} ms, {taking / opening:.3f} of opening", sep="\n")
 
 
 def main():
