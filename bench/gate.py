@@ -23,8 +23,9 @@ STEPS = ("proofs", "tests", "edits")
 
 
 def printed(*words, cwd=ROOT):
-    """What a command prints on standard output."""
-    return subprocess.run(words, cwd=cwd, capture_output=True, text=True).stdout.strip()
+    """What a command prints, on standard output or, as some kits print their help, on standard error."""
+    done = subprocess.run(words, cwd=cwd, stdout=subprocess.PIPE, stderr=subprocess.STDOUT, text=True)
+    return done.stdout.strip()
 
 
 def step_of(words, folder):
