@@ -6,7 +6,7 @@ ghost use Rattle.copy_csv.specs.Sheets as spec;
 
 use crate::sheets::{key_len, width};
 use crate::texts::Texts;
-use lei_outside::Bytes;
+use lei_outside::{Bytes, Shared};
 use register_words::Sheet;
 use std::cmp::Ordering;
 use std::marker::Model;
@@ -127,7 +127,8 @@ pub struct RowTexts {
     pub csv: Bytes,
     /// The further fields of a wide file, each preceded by a comma. Only a row of `lei` has any.
     pub tail: Bytes,
-    pub json: Bytes,
+    /// A text that others may hold too.
+    pub json: Shared,
 }
 
 /// What a delta says about a key. The texts of a row that is put were rendered elsewhere.

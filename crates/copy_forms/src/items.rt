@@ -1,18 +1,50 @@
-//! Items of the register as the JSON records of their rows.
+//! Items of the register as rows, and as the JSON records of these.
 ghost use Rattle.std.specs.Prelude.{◌≡◌, ◌≤◌, ◌++◌, IfOk, OnOk, length};
-ghost use Rattle.copy_forms.specs.Items.{item_text};
+ghost use Rattle.copy_forms.specs.Items.{item_text, sheet_row};
 ghost use Rattle.copy_forms.specs.Json.{field_at, json_record};
 ghost use Rattle.copy_forms.specs.JsonTexts as spec;
 ghost use Rattle.copy_csv.specs.Sheets;
 ghost use Rattle.copy_csv.specs.Sheets.{row_of_texts};
 
 use crate::json_text::places;
-use copy_csv::Sheet;
 use copy_csv::sheets::{name_at, width};
+use copy_csv::{Row, Sheet, Texts};
 use json::Writer;
 use lei_outside::{Bytes, NoMemory};
 use lei_records::{FieldTexts, Item};
 use std::alloc::Global;
+
+/// The row of an item, whose texts are copied into one piece of memory.
+pub fn item_row(alloc: Global, item: &Item) -> Result<Row, NoMemory>
+    ensures { IfOk result (λ row. row ≡ sheet_row item.now) }
+{
+    match item {
+        Item::Record(record) => fields_row(alloc, Sheet::Lei, record.texts()),
+        Item::Relation(relation) => fields_row(alloc, Sheet::Rr, relation.texts()),
+        Item::Exception(exception) => fields_row(alloc, Sheet::Repex, exception.texts()),
+    }
+}
+
+// The row that has these texts in order of place.
+fn fields_row(alloc: Global, sheet: Sheet, fields: &FieldTexts) -> Result<Row, NoMemory>
+    requires { length fields.now ≡ Sheets.width sheet }
+    ensures { IfOk result (λ row. row ≡ row_of_texts sheet fields.now) }
+{
+    let mut texts = Texts::with_capacity(alloc, fields.len(), bytes_of(fields))?;
+    for index in 0..fields.len() {
+        texts.push(fields.text(index))?;
+    }
+    Ok(Row::of(sheet, texts))
+}
+
+// The number of bytes of all texts together.
+fn bytes_of(fields: &FieldTexts) -> usize {
+    let mut bytes = 0_usize;
+    for index in 0..fields.len() {
+        bytes = bytes.saturating_add(fields.text(index).len());
+    }
+    bytes
+}
 
 /// The JSON record of an item's row: the fields that are present, with their names in byte order.
 pub fn item_text(alloc: Global, item: &Item) -> Result<Bytes, NoMemory>

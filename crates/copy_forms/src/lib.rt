@@ -12,6 +12,7 @@ mod json_write;
 mod laws;
 mod merging;
 mod rendering;
+mod shared_item;
 
 pub use copies::{copy_text, delta_text, read_copy, read_delta};
 pub use copy_csv::{
@@ -25,3 +26,4 @@ pub use laws::{
 };
 pub use merging::{HeldChange, place_row};
 pub use rendering::row_texts;
+pub use shared_item::{ItemRow, SharedItem};

@@ -6,8 +6,7 @@ ghost use Rattle.golden_shelf.specs.Keys.{is_key_of};
 ghost use Rattle.golden_shelf.specs.Sides.{NotesChange};
 
 use crate::lines::Note;
-use copy_csv::Row;
-use copy_forms::row_texts;
+use copy_forms::ItemRow;
 use lei_outside::{List, NoMemory};
 use lei_records::RowKey;
 use std::alloc::Global;
@@ -24,11 +23,11 @@ pub struct Parts {
 }
 
 /// A change with its row rendered, if it has one.
-pub fn render(alloc: Global, change: &(RowKey, Option<Row>)) -> Result<Note, NoMemory>
+pub fn render(alloc: Global, change: &(RowKey, Option<ItemRow>)) -> Result<Note, NoMemory>
     ensures { IfOk result (λ note. NotesChange change.now note) }
 {
     let texts = match &change.1 {
-        Some(row) => Some(row_texts(alloc, row)?),
+        Some(row) => Some(row.texts(alloc)?),
         None => None,
     };
     Ok(Note {
@@ -41,7 +40,7 @@ pub fn render(alloc: Global, change: &(RowKey, Option<Row>)) -> Result<Note, NoM
 pub fn render_all<L: Ledger, R: Threads + Sync>(
     rt: &R,
     alloc: Global,
-    changes: &[(RowKey, Option<Row>)],
+    changes: &[(RowKey, Option<ItemRow>)],
     steps: &mut Steps<L>,
 ) -> Result<Vec<Note>, NoMemory>
     ensures notes { IfOk result (λ notes. AllZip NotesChange changes.now notes.items) }
@@ -51,7 +50,7 @@ pub fn render_all<L: Ledger, R: Threads + Sync>(
         rt,
         alloc,
         changes,
-        |change: &(RowKey, Option<Row>)| -> Result<Note, NoMemory>
+        |change: &(RowKey, Option<ItemRow>)| -> Result<Note, NoMemory>
             ensures { IfOk result (λ note. NotesChange change.now note) }
         { render(alloc, change) },
         steps,
@@ -98,7 +97,10 @@ fn put_part(parts: &mut Parts, note: Note) -> Result<(), NoMemory>
 }
 
 /// The keys of changes, in order.
-pub fn keys_of(alloc: Global, changes: &[(RowKey, Option<Row>)]) -> Result<List<RowKey>, NoMemory>
+pub fn keys_of(
+    alloc: Global,
+    changes: &[(RowKey, Option<ItemRow>)],
+) -> Result<List<RowKey>, NoMemory>
     ensures { IfOk result (λ keys. keys ≡ map (λ change. change.0) changes.now) }
 {
     let mut keys = Vec::with_capacity(alloc, changes.len())?;

@@ -19,8 +19,8 @@ use crate::issue::Issue;
 use crate::notes::{keys_of, render_all, split_notes};
 use crate::sides::Sides;
 use crate::touched::touched;
-use copy_csv::{Form, Head, Row, Sheet};
-use copy_forms::{copy_text, delta_text};
+use copy_csv::{Form, Head, Sheet};
+use copy_forms::{ItemRow, copy_text, delta_text};
 use lei_outside::{Bytes, List, NoMemory};
 use lei_records::RowKey;
 use lei_shapes::Moment;
@@ -83,7 +83,7 @@ impl Shelf {
         rt: &R,
         moment: Moment,
         wide: bool,
-        changes: &[(RowKey, Option<Row>)],
+        changes: &[(RowKey, Option<ItemRow>)],
         steps: &mut Steps<L>,
     ) -> Result<(), NoMemory>
         requires changes { AreOwnChanges changes.now }

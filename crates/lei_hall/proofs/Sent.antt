@@ -1,7 +1,7 @@
 -- An office may move to another thread if its keeper may, and so threads may share a hall over it. This is shown part
 -- by part, from the lowest up: a search through all parts at once runs out of steps.
 use denote.RattleType.{RattleType}
-use denote.Param.Send.{IsSend, sendable}
+use denote.Param.Send.{IsSend, IsSync, sendable}
 use Rattle.std.proofs.Crossing.{crosses}
 use Rattle.std.proofs.MapsCrossing as maps
 use Rattle.lei_outside.specs.declared.keeper.Keeper as keeper
@@ -10,6 +10,8 @@ use Rattle.lei_records.specs.contracts.relation.Relation as Relation
 use Rattle.lei_records.specs.contracts.exception.ExceptionItem as Exception
 use Rattle.lei_records.specs.contracts.item.Item as Item
 use Rattle.lei_records.specs.contracts.view.RowKey as RowKey
+use Rattle.copy_forms.specs.contracts.shared_item.Printed as Printed
+use Rattle.copy_forms.specs.contracts.shared_item.SharedItem as SharedItem
 use Rattle.register_table.specs.contracts.slots.Slot as Cell
 use Rattle.register_table.specs.contracts.cells.CellMap as CellMap
 use Rattle.register_table.specs.contracts.authority_key_index.AuthorityKeyIndex as Index
@@ -25,7 +27,7 @@ use Rattle.register_state.specs.contracts.register.Register as Register
 use Rattle.lei_office.specs.contracts.office.Office as Office
 use Rattle.lei_hall.specs.contracts.slot.Slot as Slot
 
--- ---- the table
+-- ---- an item that is shared
 
 record_send : IsSend Record.the_field.row
 record_send = search (maps.crosses, crosses, sendable) depth 60 fits 100000
@@ -39,11 +41,34 @@ exception_send = search (maps.crosses, crosses, sendable) depth 60 fits 100000
 item_send : IsSend Item.the_field.row
 item_send = search (record_send, relation_send, exception_send, sendable) depth 60 fits 100000
 
+record_sync : IsSync Record.the_field.row
+record_sync = search (maps.crosses, crosses, sendable) depth 60 fits 100000
+
+relation_sync : IsSync Relation.the_field.row
+relation_sync = search (maps.crosses, crosses, sendable) depth 60 fits 100000
+
+exception_sync : IsSync Exception.the_field.row
+exception_sync = search (maps.crosses, crosses, sendable) depth 60 fits 100000
+
+item_sync : IsSync Item.the_field.row
+item_sync = search (record_sync, relation_sync, exception_sync, sendable) depth 60 fits 100000
+
+printed_send : IsSend Printed.the_field.row
+printed_send = search (item_send, crosses, sendable) depth 60 fits 100000
+
+printed_sync : IsSync Printed.the_field.row
+printed_sync = search (item_sync, crosses, sendable) depth 60 fits 100000
+
+shared_send : IsSend SharedItem.the_field.row
+shared_send = search (printed_send, printed_sync, crosses, sendable) depth 60 fits 100000
+
+-- ---- the table
+
 key_send : IsSend RowKey.the_field.row
 key_send = search sendable depth 60 fits 100000
 
 cell_send : IsSend Cell.the_field.row
-cell_send = search (item_send, sendable) depth 60 fits 100000
+cell_send = search (shared_send, sendable) depth 60 fits 100000
 
 cells_send : IsSend CellMap.the_field.row
 cells_send = search (cell_send, maps.crosses, crosses, sendable) depth 60 fits 100000

@@ -16,9 +16,9 @@ ghost use Rattle.register_state.specs.Deciding.{FitsNext};
 ghost use Rattle.register_table.specs.Held.{Held};
 
 use crate::books::Books;
-use copy_forms::item_text;
+use copy_forms::SharedItem;
 use lei_outside::{Batch, Bytes, KeepFault, Keeper, KeptCell, KeptEntry, List, NoMemory, Shared};
-use lei_records::{Item, RowKey, Writes};
+use lei_records::{RowKey, Writes};
 use register_table::{Table, Touched};
 use register_words::{Kind, Reply};
 use std::alloc::Global;
@@ -55,7 +55,7 @@ impl Books {
         ensures failed { IsErrOf result KeepFault.Failed → Rose (K.faults keeper.old) (K.faults keeper.new) }
     {
         let reply = entry_reply(self.alloc, &entry)?;
-        self.table.apply(writes, entry.seq)?;
+        self.table.apply(writes, entry.seq, true)?;
         match keep(self.alloc, &mut self.ledger, &self.table, keeper, entry) {
             Ok(()) => Ok(reply),
             Err(fault) => {
@@ -74,7 +74,7 @@ impl Books {
         ensures stays { OnErr result (self.new ≡ self.old) }
     {
         self.ledger.reserve(&entry)?;
-        self.table.apply(writes, entry.seq)?;
+        self.table.apply(writes, entry.seq, false)?;
         self.ledger.push_reserved(entry);
         Ok(())
     }
@@ -178,14 +178,11 @@ fn kept_cell(alloc: Global, told: &Touched) -> Result<KeptCell, NoMemory>
     })
 }
 
-fn row_text(alloc: Global, item: &Option<Item>) -> Result<Option<Shared>, NoMemory>
+fn row_text(alloc: Global, item: &Option<SharedItem>) -> Result<Option<Shared>, NoMemory>
     ensures { IfOk result (λ text. text ≡ option_map item_text item.now) }
 {
     match item {
-        Some(item) => {
-            let text = item_text(alloc, item)?;
-            Ok(Some(Shared::of(alloc, text.into_vec())?))
-        }
+        Some(item) => Ok(Some(item.text(alloc)?)),
         None => Ok(None),
     }
 }

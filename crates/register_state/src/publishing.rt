@@ -1,7 +1,7 @@
 //! Publications: what changed since the last one goes onto the shelf, which gives copies of the latest publication and
 //! deltas to it.
-ghost use Rattle.std.specs.Prelude.{◌≡◌, ◌<◌, ◌++◌, ◌∷◌, [], IfOk, IsTrue, OnErr, OnOk, Some, false, length, map};
-ghost use Rattle.copy_csv.specs.Sheets as sheets;
+ghost use Rattle.std.specs.Prelude.{◌≡◌, ◌<◌, ◌++◌, ◌∷◌, [], IfOk, IsTrue, None, OnErr, OnOk, Some, false, if◌then◌else◌, length, map};
+ghost use Rattle.copy_forms.specs.Items.{sheet_row};
 ghost use Rattle.copy_forms.specs.Trails.{Publication, Trail};
 ghost use Rattle.golden_shelf.specs.Changes.{AreOwnChanges, ArePlain, IsIssued};
 ghost use Rattle.golden_shelf.specs.Shelves.{KeepsTrail as KeepsTrail, MayFollow, latest_rows};
@@ -19,10 +19,11 @@ ghost use Rattle.register_history.specs.Replies.{copy_outcome, delta_outcome, fo
 use crate::books::Books;
 use crate::decision::{Decision, refuse};
 use crate::entries::publication;
-use copy_csv::{Form, Row, Sheet, Texts};
+use copy_csv::{Form, Sheet};
+use copy_forms::{ItemRow, SharedItem};
 use golden_shelf::{Base, Shelf, ShelfFault};
 use lei_outside::{Bytes, KeptEntry, List, NoMemory};
-use lei_records::{FieldTexts, Item, RowKey};
+use lei_records::{Item, RowKey};
 use lei_shapes::RelationRegistration;
 use register_history::EntryTerms;
 use register_table::{Table, Touched};
@@ -99,7 +100,7 @@ impl Books {
     }
 
     // The changes that the next publication makes.
-    fn next_changes(&self) -> Result<Vec<(RowKey, Option<Row>)>, NoMemory>
+    fn next_changes(&self) -> Result<Vec<(RowKey, Option<ItemRow>)>, NoMemory>
         ensures changes { IfOk result
             (λ changes. AreNextChanges self.now.limits self.now.history changes.items) }
         ensures own { IfOk result (λ changes. AreOwnChanges changes.items) }
@@ -142,7 +143,7 @@ fn shelve<L: Counted, R: Threads + Sync>(
     rt: &R,
     shelf: &mut Shelf,
     terms: &EntryTerms,
-    changes: &[(RowKey, Option<Row>)],
+    changes: &[(RowKey, Option<ItemRow>)],
     blank: Blank,
 ) -> Result<(), NoMemory>
     requires changes { AreOwnChanges changes.now }
@@ -176,7 +177,7 @@ fn changes_since(
     table: &Table,
     after: u64,
     upto: u64,
-) -> Result<Vec<(RowKey, Option<Row>)>, NoMemory>
+) -> Result<Vec<(RowKey, Option<ItemRow>)>, NoMemory>
     ensures { IfOk result (λ changes. AreChangesSince after upto table.now.held changes.items) }
 {
     let touched = table.touched(after, upto)?;
@@ -184,61 +185,47 @@ fn changes_since(
 }
 
 // The changes of touched keys.
-fn changes_of(alloc: Global, touched: &[Touched]) -> Result<Vec<(RowKey, Option<Row>)>, NoMemory>
+fn changes_of(
+    alloc: Global,
+    touched: &[Touched],
+) -> Result<Vec<(RowKey, Option<ItemRow>)>, NoMemory>
     ensures { IfOk result (λ changes. changes.items ≡ map row_change_of touched.now) }
 {
     let mut changes = Vec::with_capacity(alloc, touched.len())?;
     for told in touched {
-        changes.push((told.key, row_of(alloc, &told.item)?))?;
+        changes.push((told.key, row_of(&told.item)?))?;
     }
     Ok(changes)
 }
 
 // The row that is published for what is held under a key.
-fn row_of(alloc: Global, item: &Option<Item>) -> Result<Option<Row>, NoMemory>
+fn row_of(item: &Option<SharedItem>) -> Result<Option<ItemRow>, NoMemory>
     ensures { IfOk result (λ row. row ≡ row_published item.now) }
 {
     match item {
-        Some(item) => published_row(alloc, item),
+        Some(item) => published_row(item),
         None => Ok(None),
     }
 }
 
 // The row that is published for an item. A relationship whose registration is annulled has none.
-fn published_row(alloc: Global, item: &Item) -> Result<Option<Row>, NoMemory>
+fn published_row(item: &SharedItem) -> Result<Option<ItemRow>, NoMemory>
     ensures { IfOk result (λ row. row ≡ row_published (Some item.now)) }
 {
-    match item {
-        Item::Record(record) => Ok(Some(sheet_row(alloc, Sheet::Lei, record.texts())?)),
-        Item::Relation(relation) => {
-            if relation.registration() == RelationRegistration::Annulled {
-                return Ok(None);
-            }
-            Ok(Some(sheet_row(alloc, Sheet::Rr, relation.texts())?))
-        }
-        Item::Exception(exception) => Ok(Some(sheet_row(alloc, Sheet::Repex, exception.texts())?)),
+    if is_annulled(item.item()) {
+        return Ok(None);
     }
+    Ok(Some(ItemRow::of(item.share()?)))
 }
 
-// The row of a sheet with these texts, which are copied into one allocation.
-fn sheet_row(alloc: Global, sheet: Sheet, fields: &FieldTexts) -> Result<Row, NoMemory>
-    requires { length fields.now ≡ sheets.width sheet }
-    ensures { IfOk result (λ row. row ≡ sheets.row_of_texts sheet fields.now) }
+// Whether an item is a relationship whose registration is annulled. Of all other items the row is published.
+fn is_annulled(item: &Item) -> bool
+    ensures { row_published (Some item.now) ≡ (if result then None else Some (sheet_row item.now)) }
 {
-    let mut texts = Texts::with_capacity(alloc, fields.len(), bytes_of(fields))?;
-    for index in 0..fields.len() {
-        texts.push(fields.text(index))?;
+    match item {
+        Item::Relation(relation) => relation.registration() == RelationRegistration::Annulled,
+        _ => false,
     }
-    Ok(Row::of(sheet, texts))
-}
-
-// The number of bytes of all texts together.
-fn bytes_of(fields: &FieldTexts) -> usize {
-    let mut bytes = 0_usize;
-    for index in 0..fields.len() {
-        bytes = bytes.saturating_add(fields.text(index).len());
-    }
-    bytes
 }
 
 /// Replies with the copy of a sheet in the latest publication, or refuses if nothing was published.

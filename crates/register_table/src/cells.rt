@@ -184,7 +184,7 @@ fn lend<'a>(slots: &mut LentSlots<'a>, key: &RowKey, slot: &'a Slot) -> Result<(
     }
 }
 
-// The slots under their keys, in the order of the keys. The items in the result share their texts with the slots.
+// The slots under their keys, in the order of the keys. The result shares the items with the slots.
 fn touched_in(alloc: Global, slots: &LentSlots<'_>) -> Result<Vec<Touched>, NoMemory>
     requires { AreOwnCells (owned_slots slots.now.entries) }
     ensures told { IfOk result

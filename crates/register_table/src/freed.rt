@@ -10,6 +10,7 @@ ghost use Rattle.register_table.specs.Undos.{cells_before};
 use crate::authority_key_index::held_key;
 use crate::parts::{Note, Parts};
 use crate::writes::undo_notes;
+use copy_forms::SharedItem;
 use lei_outside::NoMemory;
 use lei_records::{Item, Record, Relation};
 
@@ -57,7 +58,7 @@ fn free_note(parts: &mut Parts, note: &Note)
     }
 }
 
-fn free_item(parts: &mut Parts, item: &Option<Item>)
+fn free_item(parts: &mut Parts, item: &Option<SharedItem>)
     requires { ArePartsOfTable parts.old }
     ensures cells { parts.new.cells ≡ parts.old.cells }
     ensures parts { ArePartsOfTable parts.new }
@@ -66,9 +67,12 @@ fn free_item(parts: &mut Parts, item: &Option<Item>)
     ensures left { MarksAreWithin (lei_marks parts.new) (held_by (rows parts.old.cells)) item.now }
 {
     match item {
-        Some(Item::Record(record)) => free_key(parts, record),
-        Some(Item::Relation(relation)) => free_start(parts, relation),
-        _ => (),
+        Some(item) => match item.item() {
+            Item::Record(record) => free_key(parts, record),
+            Item::Relation(relation) => free_start(parts, relation),
+            Item::Exception(_) => (),
+        },
+        None => (),
     }
 }
 
@@ -133,7 +137,7 @@ fn hold_note(parts: &mut Parts, note: &Note)
     }
 }
 
-fn hold_item(parts: &mut Parts, item: &Option<Item>)
+fn hold_item(parts: &mut Parts, item: &Option<SharedItem>)
     requires parts { ArePartsOfTable parts.old }
     requires places { IsMarked (all_marks parts.old) item.now }
     ensures cells { parts.new.cells ≡ parts.old.cells }
@@ -143,9 +147,12 @@ fn hold_item(parts: &mut Parts, item: &Option<Item>)
     ensures held { IsMarked (lei_marks parts.new) item.now }
 {
     match item {
-        Some(Item::Record(record)) => hold_key(parts, record),
-        Some(Item::Relation(relation)) => hold_start(parts, relation),
-        _ => (),
+        Some(item) => match item.item() {
+            Item::Record(record) => hold_key(parts, record),
+            Item::Relation(relation) => hold_start(parts, relation),
+            Item::Exception(_) => (),
+        },
+        None => (),
     }
 }
 
@@ -215,7 +222,7 @@ fn drop_note(parts: &mut Parts, note: &Note)
     }
 }
 
-fn drop_item(parts: &mut Parts, item: &Option<Item>)
+fn drop_item(parts: &mut Parts, item: &Option<SharedItem>)
     requires { ArePartsOfTable parts.old }
     ensures cells { parts.new.cells ≡ parts.old.cells }
     ensures parts { ArePartsOfTable parts.new }
@@ -224,9 +231,12 @@ fn drop_item(parts: &mut Parts, item: &Option<Item>)
     ensures left { MarksAreWithin (all_marks parts.new) (lei_marks parts.new) item.now }
 {
     match item {
-        Some(Item::Record(record)) => drop_key(parts, record),
-        Some(Item::Relation(relation)) => drop_start(parts, relation),
-        _ => (),
+        Some(item) => match item.item() {
+            Item::Record(record) => drop_key(parts, record),
+            Item::Relation(relation) => drop_start(parts, relation),
+            Item::Exception(_) => (),
+        },
+        None => (),
     }
 }
 

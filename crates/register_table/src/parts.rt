@@ -11,6 +11,7 @@ use crate::authority_key_index::AuthorityKeyIndex;
 use crate::cells::CellMap;
 use crate::ends::Ends;
 use crate::slots::Slot;
+use copy_forms::SharedItem;
 use lei_outside::NoMemory;
 use lei_records::{Item, RowKey};
 
@@ -53,7 +54,7 @@ pub fn put(parts: &mut Parts, key: RowKey, slot: Slot) -> Result<Option<Slot>, N
 fn index(
     holders: &mut AuthorityKeyIndex,
     ends: &mut Ends,
-    item: &Option<Item>,
+    item: &Option<SharedItem>,
 ) -> Result<(), NoMemory>
     ensures ok { OnOk result (AreNoted item.now holders.old ends.old holders.new ends.new) }
     ensures err { OnErr result (AreNoted None holders.old ends.old holders.new ends.new) }
@@ -61,9 +62,12 @@ fn index(
     ensures absent { OnErr result (IsNewItem item.now holders.old ends.old) }
 {
     match item {
-        Some(Item::Record(record)) => holders.put(record),
-        Some(Item::Relation(relation)) => ends.put(relation),
-        _ => Ok(()),
+        Some(item) => match item.item() {
+            Item::Record(record) => holders.put(record),
+            Item::Relation(relation) => ends.put(relation),
+            Item::Exception(_) => Ok(()),
+        },
+        None => Ok(()),
     }
 }
 

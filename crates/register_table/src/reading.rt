@@ -8,6 +8,7 @@ ghost use Rattle.register_table.specs.Reading.{is_active_row, record_row, relati
 
 use crate::parts::Parts;
 use authority_rules::holds;
+use copy_forms::SharedItem;
 use lei_code::Lei;
 use lei_records::{Item, Record, Relation, RowKey};
 use lei_shapes::{ExceptionCategory, RelationType};
@@ -89,20 +90,26 @@ impl Parts {
     }
 }
 
-fn record_in(item: &Option<Item>) -> Option<&Record>
+fn record_in(item: &Option<SharedItem>) -> Option<&Record>
     ensures { option_map (λ row. row.now) result ≡ record_row item.now }
 {
     match item {
-        Some(Item::Record(record)) => Some(record),
-        _ => None,
+        Some(item) => match item.item() {
+            Item::Record(record) => Some(record),
+            _ => None,
+        },
+        None => None,
     }
 }
 
-fn relation_in(item: &Option<Item>) -> Option<&Relation>
+fn relation_in(item: &Option<SharedItem>) -> Option<&Relation>
     ensures { option_map (λ row. row.now) result ≡ relation_row_in item.now }
 {
     match item {
-        Some(Item::Relation(relation)) => Some(relation),
-        _ => None,
+        Some(item) => match item.item() {
+            Item::Relation(relation) => Some(relation),
+            _ => None,
+        },
+        None => None,
     }
 }

@@ -9,18 +9,21 @@ ghost use Rattle.register_table.specs.Undos;
 ghost use Rattle.register_table.specs.Undos.{AreOwn, IsOwn, StaysKept, cells_before, touch, touch_all};
 
 use crate::parts::{Note, Parts, put, put_back};
-use crate::slots::{Slot, share};
+use crate::slots::Slot;
+use copy_forms::SharedItem;
 use lei_outside::NoMemory;
 use lei_records::{Item, RowKey};
 use std::alloc::Global;
 
-/// Puts the writes of the entry with this number, from the first to the last, and notes what they replace. There must
-/// be capacity for the notes. If memory runs out, the notes are of the writes that were put.
+/// Puts the writes of the entry with this number, from the first to the last, and notes what they replace. If `prints`
+/// is set, the JSON record of each item is printed and held with it. There must be capacity for the notes. If memory
+/// runs out, the notes are of the writes that were put.
 pub fn put_writes(
     alloc: Global,
     parts: &mut Parts,
     writes: &[(RowKey, Option<Item>)],
     entry: u64,
+    prints: bool,
     notes: &mut Vec<Note>,
 ) -> Result<(), NoMemory>
     requires own { AreOwn writes.now }
@@ -35,7 +38,7 @@ pub fn put_writes(
     ensures noted { MarksStay (all_marks parts.old) (all_marks parts.new) }
 {
     for write in writes {
-        put_write(alloc, parts, write, entry, notes)?;
+        put_write(alloc, parts, write, entry, prints, notes)?;
     }
     Ok(())
 }
@@ -45,6 +48,7 @@ fn put_write(
     parts: &mut Parts,
     write: &(RowKey, Option<Item>),
     entry: u64,
+    prints: bool,
     notes: &mut Vec<Note>,
 ) -> Result<(), NoMemory>
     requires own { IsOwn write.now }
@@ -61,7 +65,7 @@ fn put_write(
     ensures capacity { vec_capacity notes.new ≡ vec_capacity notes.old }
     ensures len { vec_len notes.new ≤ vec_len notes.old + 1 }
 {
-    let slot = slot_of(&write.1, entry)?;
+    let slot = slot_of(alloc, &write.1, entry, prints)?;
     let out = put(parts, write.0, slot)?;
     notes.push_reserved(Note {
         key: write.0,
@@ -71,13 +75,24 @@ fn put_write(
 }
 
 // A slot with the number of the entry that puts it, and an item that shares its texts with this one, or none.
-fn slot_of(item: &Option<Item>, entry: u64) -> Result<Slot, NoMemory>
+fn slot_of(alloc: Global, item: &Option<Item>, entry: u64, prints: bool) -> Result<Slot, NoMemory>
     ensures { IfOk result (λ slot. (slot.item ≡ item.now) × (slot.entry ≡ entry)) }
 {
     Ok(Slot {
         entry,
-        item: share(item)?,
+        item: shared(alloc, item, prints)?,
     })
+}
+
+// An item for several holders that shares its texts with this one, or none.
+fn shared(alloc: Global, item: &Option<Item>, prints: bool) -> Result<Option<SharedItem>, NoMemory>
+    ensures { IfOk result (λ shared. shared ≡ item.now) }
+{
+    match item {
+        Some(item) if prints => Ok(Some(SharedItem::printed(alloc, item.share()?)?)),
+        Some(item) => Ok(Some(SharedItem::of(alloc, item.share()?)?)),
+        None => Ok(None),
+    }
 }
 
 /// Puts back what was noted, from the last note to the first, and notes instead what was held. Nothing is allocated.

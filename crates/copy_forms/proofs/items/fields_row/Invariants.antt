@@ -1,5 +1,5 @@
 use Rattle.std.proofs.Common.{◌≡◌, take}
-use Rattle.register_state.proofs.publishing.sheet_row.Given as goal
+use Rattle.copy_forms.proofs.items.fields_row.Given as goal
 
 abbrev pub invariant-loop-index : goal.invariant-loop-index
 invariant-loop-index l = l.texts ≡ take l.index l.fields
