@@ -26,11 +26,13 @@ number-digit text c low high = number-push text c ∙ rw digits_for-digit
 pub number-letter : (text : List ℕ) (c : ℕ) → 65 ≤ c → c ≤ 90 → number (text ++ c ∷ []) ≡ 100 * number text + (c - 55)
 number-letter text c low high = number-push text c ∙ rw digits_for-letter (omega arith)
 
--- the remainder after one more character of a text
-pub next_digit : (text : List ℕ) (i : ℕ) → i < length text → 48 ≤ get_or text i 0 → get_or text i 0 ≤ 57 → number (take (i + 1) text) % 97 ≡ (number (take i text) % 97 * 10 + (get_or text i 0 - 48)) % 97
-next_digit text i within low high =
+-- the remainder after one more character of a text, from a number with the remainder of those before it
+pub next_digit : (text : List ℕ) (i r n : ℕ) → i < length text → 48 ≤ get_or text i 0 → get_or text i 0 ≤ 57 → r % 97 ≡ n % 97 → n % 97 ≡ number (take i text) % 97
+    → (r * 10 + (get_or text i 0 - 48)) % 97 ≡ number (take (i + 1) text) % 97
+next_digit text i r n within low high same so_far =
     rw (take_more text i 0 within) (let e = number-digit (take i text) (get_or text i 0) low high in omega arith)
 
-pub next_letter : (text : List ℕ) (i : ℕ) → i < length text → 65 ≤ get_or text i 0 → get_or text i 0 ≤ 90 → number (take (i + 1) text) % 97 ≡ (number (take i text) % 97 * 100 + (get_or text i 0 - 65) + 10) % 97
-next_letter text i within low high =
+pub next_letter : (text : List ℕ) (i r n : ℕ) → i < length text → 65 ≤ get_or text i 0 → get_or text i 0 ≤ 90 → r % 97 ≡ n % 97 → n % 97 ≡ number (take i text) % 97
+    → (r * 100 + (get_or text i 0 - 65) + 10) % 97 ≡ number (take (i + 1) text) % 97
+next_letter text i r n within low high same so_far =
     rw (take_more text i 0 within) (let e = number-letter (take i text) (get_or text i 0) low high in omega arith)

@@ -47,6 +47,17 @@ impl Lei {
         Ok(Lei { text: own })
     }
 
+    /// The code with these characters, which must be one and aren't checked again.
+    pub fn of_valid(text: &[u8]) -> Lei
+        requires { IsValid text.now }
+        ensures { result ≡ text.now }
+    {
+        match <[u8; 20]>::try_from(text) {
+            Ok(text) => Lei { text },
+            Err(_) => unreachable!(),
+        }
+    }
+
     /// The 20 characters, each a byte.
     pub fn text(self) -> [u8; 20]
         ensures value { result ≡ self }

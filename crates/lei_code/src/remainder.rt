@@ -6,7 +6,8 @@ ghost use Rattle.lei_code.specs.Fault.{IsCharacterFault};
 
 use crate::fault::LeiFault;
 
-/// The remainder of a text's number modulo 97, read byte by byte, or its first wrong character.
+/// The remainder of a text's number modulo 97, read byte by byte, or its first wrong character. A division takes longer
+/// than all else that is done for a byte, so the number is reduced only before it gets too large.
 #[tactic(auto, using(crate::proofs::Remainders::remainder_steps))]
 pub fn remainder_of(text: &[u8]) -> Result<u32, LeiFault>
     requires { length text.now < 256 }
@@ -14,14 +15,26 @@ pub fn remainder_of(text: &[u8]) -> Result<u32, LeiFault>
     ensures well_formed { OnOk result (IsWellFormed text.now) }
     ensures fault { IfErr result (IsCharacterFault text.now) }
 {
-    let mut remainder = 0;
+    let mut number = 0;
     for (index, byte) in text.iter().enumerate() {
-        let shifted = match *byte {
-            digit @ b'0'..=b'9' => remainder * 10 + u32::from(digit - b'0'),
-            letter @ b'A'..=b'Z' if index < 18 => remainder * 100 + u32::from(letter - b'A') + 10,
+        let front = reduced(number);
+        number = match *byte {
+            digit @ b'0'..=b'9' => front * 10 + u64::from(digit - b'0'),
+            letter @ b'A'..=b'Z' if index < 18 => front * 100 + u64::from(letter - b'A') + 10,
             _ => return Err(LeiFault::Character(index as u8 + 1)),
         };
-        remainder = shifted % 97;
     }
-    Ok(remainder)
+    Ok((number % 97) as u32)
+}
+
+// A number with the same remainder modulo 97 that is below 10^16. With one more character it fits in 64 bits.
+fn reduced(number: u64) -> u64
+    ensures same { result % 97 ≡ number % 97 }
+    ensures small { result < 10_000_000_000_000_000 }
+{
+    if number < 10_000_000_000_000_000 {
+        number
+    } else {
+        number % 97
+    }
 }

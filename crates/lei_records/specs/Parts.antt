@@ -4,7 +4,7 @@ use Rattle.std.specs.Arc.{arc_value}
 use Rattle.lei_records.specs.declared.exception.ExceptionItem.TheInside.{Inside as ExceptionParts}
 use Rattle.lei_records.specs.declared.record.Record.TheInside.{Inside}
 use Rattle.lei_records.specs.declared.relation.Relation.TheInside.{Inside as RelationParts}
-use Rattle.lei_records.specs.Cells.{category_in, created_in, entity_status_in, initial_in, lei_in, manager_in, receiver_in, renewal_in, status_in, successors_in, updated_in}
+use Rattle.lei_records.specs.Cells.{category_in, created_in, entity_status_in, initial_in, lei_in, manager_in, receiver_in, renewal_in, status_in, updated_in}
 use Rattle.lei_records.specs.Exceptions.{exception_category_in, reason_in, subject_in}
 use Rattle.lei_records.specs.Relations.{end_in, ended_in, kind_in, registration_in, relation_initial_in, relation_manager_in, relation_status_in, relation_updated_in, start_in, started_in}
 use Rattle.lei_records.specs.Rows.{Row}
@@ -18,7 +18,6 @@ pub record IsSpelled (parts : Inside) : Type 0 where
   pub category : parts.category ≡ category_in (arc_value parts.texts)
   pub entity_status : parts.entity_status ≡ entity_status_in (arc_value parts.texts)
   pub created : parts.created ≡ created_in (arc_value parts.texts)
-  pub successors : parts.successors ≡ successors_in (arc_value parts.texts)
   pub initial : parts.initial ≡ initial_in (arc_value parts.texts)
   pub updated : parts.updated ≡ updated_in (arc_value parts.texts)
   pub status : parts.status ≡ status_in (arc_value parts.texts)

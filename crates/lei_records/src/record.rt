@@ -27,7 +27,6 @@ pub struct Record {
     entity_status: EntityStatus,
     category: Category,
     manager: Lei,
-    successors: Successors,
     transfer_to: Option<Lei>,
     initial: Moment,
     updated: Moment,
@@ -82,7 +81,6 @@ impl Record {
             category: category_of(texts),
             entity_status: entity_status_of(texts),
             created: row.present_moment(places::CREATED),
-            successors: successors_at(texts),
             initial: row.moment(places::INITIAL),
             updated: row.moment(places::UPDATED),
             status: status_of(texts),
@@ -166,14 +164,14 @@ impl Record {
     pub fn successors(&self) -> Successors
         ensures { result ≡ Cells.successors_in self.now }
     {
-        self.successors
+        successors_at(&self.texts)
     }
 
     /// The first of them, which is the only one by the first rules.
     pub fn successor(&self) -> Option<Lei>
         ensures { result ≡ Cells.successor_in self.now }
     {
-        self.successors.first()
+        self.successors().first()
     }
 
     /// The issuer that the record is to be transferred to: the field Register.TransferTo.
@@ -259,7 +257,6 @@ impl Record {
             entity_status: self.entity_status,
             category: self.category,
             manager: self.manager,
-            successors: self.successors,
             transfer_to: self.transfer_to,
             initial: self.initial,
             updated: self.updated,

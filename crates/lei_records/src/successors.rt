@@ -87,12 +87,8 @@ impl Successors {
 }
 
 // The LEI at the indexes past the count.
-#[tactic(auto, unfolding(lei_code::specs::Fault::fault_of, lei_code::specs::Fault::first_wrong, lei_code::specs::Number::number))]
 fn filler() -> Lei
     ensures { result ≡ filler }
 {
-    match Lei::read(b"00000000000000000098") {
-        Ok(lei) => lei,
-        Err(_) => unreachable!(),
-    }
+    Lei::of_valid(b"00000000000000000098")
 }

@@ -29,10 +29,7 @@ pub fn code_at(texts: &FieldTexts, place: usize) -> Lei
     requires valid { IsValid (text_at texts.now place) }
     ensures { result ≡ text_at texts.now place }
 {
-    match Lei::read(text_at(texts, place).as_bytes()) {
-        Ok(code) => code,
-        Err(_) => unreachable!(),
-    }
+    Lei::of_valid(text_at(texts, place).as_bytes())
 }
 
 // The same for a text that may be absent: `None` if it is.
@@ -70,10 +67,7 @@ fn codes_in(text: &[u8]) -> Successors
     let mut left = Some(text);
     while let Some(text) = left {
         let (code, rest) = cut_at_space(text);
-        match Lei::read(code) {
-            Ok(code) => codes = codes.with(code),
-            Err(_) => unreachable!(),
-        }
+        codes = codes.with(Lei::of_valid(code));
         left = rest;
     }
     codes

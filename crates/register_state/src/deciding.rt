@@ -22,11 +22,10 @@ use crate::entries::{accreditation, taken_upload};
 use crate::judge::{is_usable, judge};
 use crate::publishing::{copy, delta};
 use answer_texts::status_text;
-use copy_forms::item_text;
 use golden_shelf::Shelf;
 use lei_code::Lei;
 use lei_outside::{Bytes, List, NoMemory};
-use lei_records::{Item, Rules};
+use lei_records::Rules;
 use lei_shapes::day_number;
 use register_history::EntryTerms;
 use register_judge::{Outcome, Plan, Sitting};
@@ -76,10 +75,7 @@ impl Books {
             (show_outcome (row_at (after self.now.limits self.now.history) lei.now)) result }
     {
         match self.table.show(lei) {
-            Some(record) => {
-                let item = Item::Record(record.share()?);
-                Ok(json_reply(item_text(self.alloc, &item)?))
-            }
+            Some(item) => kept_reply(self.alloc, item.text(self.alloc)?.as_slice()),
             None => Ok(Reply::Words(Refusal::LeiUnknown)),
         }
     }
@@ -295,7 +291,7 @@ fn json_reply(text: Bytes) -> Reply
     }
 }
 
-// The text that is kept for an accreditation or an upload, as a reply.
+// A text that is kept, as a reply.
 fn kept_reply(alloc: Global, text: &[u8]) -> Result<Reply, NoMemory>
     ensures { IfOk result (λ reply. reply ≡ json_reply 200 text.now) }
 {

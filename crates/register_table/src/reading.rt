@@ -1,5 +1,6 @@
 //! What the parts of a table have under the keys of its cells.
 ghost use Rattle.std.specs.Prelude.{◌≡◌, Some, None, if◌then◌else◌, option_map};
+ghost use Rattle.lei_records.specs.declared.item.Item.{Item as Declared};
 ghost use Rattle.lei_records.specs.Tables;
 ghost use Rattle.lei_records.specs.Tables.{active_of, holder_of, relation_row, row_at};
 ghost use Rattle.register_table.specs.Held.{rows};
@@ -20,6 +21,17 @@ impl Parts {
     {
         match self.cells.get(&RowKey::Rec(*lei)) {
             Some(slot) => record_in(&slot.item),
+            None => None,
+        }
+    }
+
+    /// The same record as an item.
+    pub fn record_item(&self, lei: &Lei) -> Option<&SharedItem>
+        ensures { option_map (λ item. item.now) result
+            ≡ option_map Declared.Record (row_at (rows self.now.cells) lei.now) }
+    {
+        match self.cells.get(&RowKey::Rec(*lei)) {
+            Some(slot) => record_item_in(&slot.item),
             None => None,
         }
     }
@@ -96,6 +108,18 @@ fn record_in(item: &Option<SharedItem>) -> Option<&Record>
     match item {
         Some(item) => match item.item() {
             Item::Record(record) => Some(record),
+            _ => None,
+        },
+        None => None,
+    }
+}
+
+fn record_item_in(item: &Option<SharedItem>) -> Option<&SharedItem>
+    ensures { option_map (λ item. item.now) result ≡ option_map Declared.Record (record_row item.now) }
+{
+    match item {
+        Some(item) => match item.item() {
+            Item::Record(_) => Some(item),
             _ => None,
         },
         None => None,

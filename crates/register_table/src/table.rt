@@ -5,6 +5,7 @@ ghost use Rattle.cell_reads.specs.Reads.{Agrees};
 ghost use Rattle.fetched_cells.specs.Fetching.{HasJust, fetched_keys};
 ghost use Rattle.fetched_cells.specs.Maps.{fetched_view};
 ghost use Rattle.lei_records.specs.Tables.{cells_of, put_all, record_count, row_at};
+ghost use Rattle.lei_records.specs.declared.item.Item.{Item};
 ghost use Rattle.register_table.specs.Cells.{AreOwnItems};
 ghost use Rattle.register_table.specs.Held.{CanBeKept, no_rows, rows};
 ghost use Rattle.register_table.specs.Touched.{cell_under_key, touched};
@@ -18,10 +19,11 @@ use crate::parts::{Note, Parts};
 use crate::stamps::{Stamp, stamp_writes, stamps_within};
 use crate::touched::Touched;
 use crate::writes::put_writes;
+use copy_forms::SharedItem;
 use fetched_cells::Fetched;
 use lei_code::Lei;
 use lei_outside::NoMemory;
-use lei_records::{CellKey, Reads, RecCell, Record, RelCell, Seen, View, Writes};
+use lei_records::{CellKey, Reads, RecCell, RelCell, Seen, View, Writes};
 use lei_shapes::{ExceptionCategory, RelationType};
 use std::alloc::Global;
 use std::marker::Model;
@@ -65,7 +67,7 @@ impl View for Table {
     ghost cells = { λ table. cells_of (rows table.held) };
 
     fn record_cell(&self, lei: &Lei) -> Seen<RecCell> {
-        match self.show(lei) {
+        match self.parts.record(lei) {
             Some(record) => Seen::Held(record.cell()),
             None => Seen::Empty,
         }
@@ -218,10 +220,11 @@ impl Table {
     }
 
     /// The record with this LEI, if one is held.
-    pub fn show(&self, lei: &Lei) -> Option<&Record>
-        ensures { option_map (λ row. row.now) result ≡ row_at (rows self.now.held) lei.now }
+    pub fn show(&self, lei: &Lei) -> Option<&SharedItem>
+        ensures { option_map (λ item. item.now) result
+            ≡ option_map Item.Record (row_at (rows self.now.held) lei.now) }
     {
-        self.parts.record(lei)
+        self.parts.record_item(lei)
     }
 }
 

@@ -259,10 +259,12 @@ fn read_fields(alloc: Global, members: Members<'_, '_>) -> Result<Option<Fields>
     Ok(Some(fields))
 }
 
-// Most items have at most this many fields, with at most this many bytes of names and texts together.
+// Most items have at most this many fields.
 const FIELDS: usize = 32;
 
-const BYTES: usize = 1_500;
+// Many items have at most this many bytes of names and texts together. A piece of up to 1,032 bytes that is given back,
+// as this one is for each item, is kept at hand by the C library.
+const BYTES: usize = 1_000;
 
 // Whether the name comes after those of the fields in byte order.
 fn is_next(fields: &Fields, name: &str) -> bool
