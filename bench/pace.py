@@ -81,7 +81,7 @@ def one_record(number):
 
 def new_records(uploads):
     """The bodies of uploads of 4,400 records each, which no upload before had."""
-    return bodies(uploads, lambda number: FIRST + number)
+    return bodies(uploads * RECORDS, lambda number: FIRST + number)
 
 
 def large_uploads():

@@ -1,13 +1,16 @@
 #!/usr/bin/env python3
-"""Measures how an upload's time grows with the table: 8, 16 and 32 uploads of 4,400 new records each, to 140,800
-records in all. Beside them stand as many uploads whose records all have one LEI, so that the table has one row, and a
-program of its own that reads the very bodies and makes their records ready, without lines, judging, table or answers. It
-calls `upload_format` and `lei_records` alone, and is proved and built in a temporary folder beside copies of the crates
-that it needs, with what was proved of them.
+"""Measures how an upload's time grows with the table: 35,200, 140,800 and 499,200 new records in uploads of 4,400. Beside
+them stand as many uploads whose records all have one LEI, so that the table has one row, and a program of its own that
+reads the very bodies and makes their records ready, without lines, judging, table or answers. It calls `upload_format` and
+`lei_records` alone, and is proved and built in a temporary folder beside copies of the crates that it needs, with what was
+proved of them.
+
+usage: bench/table.py [--program P] [--reader R]    the built register and the built reader, if they are there already
 
 Each time is that of the process on its processor, its own and the system's for it, the least of some runs. The last ratio
 is that of the uploads to reading and making ready. The memory of a row is what the program takes at most, over what it
 takes for the uploads of one LEI, by row."""
+import argparse
 import datetime
 import json
 import os
@@ -23,6 +26,7 @@ BELOW = ["lei_outside", "lei_code", "lei_shapes", "lei_records", "register_words
 NAME = "table_bench"
 OFFICE = "506700GE1G29325QX363"
 RECORDS = 4400
+SIZES = (35_200, 140_800, 499_200)
 RUNS = 5
 
 FIELDS = {
@@ -72,10 +76,10 @@ def build(folder):
     return crates / NAME / "out" / NAME
 
 
-def bodies(uploads, first_of):
-    """The bodies of uploads. A record's LEI and its id are those of a number."""
-    for upload in range(uploads):
-        numbers = (first_of(upload * RECORDS + at) for at in range(RECORDS))
+def bodies(count, first_of):
+    """The bodies of uploads that have this many records in all. A record's LEI and its id are those of a number."""
+    for start in range(0, count, RECORDS):
+        numbers = (first_of(at) for at in range(start, min(start + RECORDS, count)))
         records = [{**FIELDS, "LEI": code(number), "Entity.RegistrationAuthority.RegistrationAuthorityEntityID": str(number)}
                    for number in numbers]
         yield json.dumps({"records": records}, separators=(",", ":"), sort_keys=True)
@@ -116,21 +120,28 @@ def read(program, folder, sent):
 
 
 def main():
-    subprocess.run([ROOT / "leireg", "lines"], stdin=subprocess.DEVNULL, check=True)
+    parser = argparse.ArgumentParser()
+    parser.add_argument("--program", type=pathlib.Path, help="the built register, by itself that of this tree")
+    parser.add_argument("--reader", type=pathlib.Path, help="the built reader, by itself one that is built for this run")
+    given = parser.parse_args()
+    if not given.program:
+        subprocess.run([ROOT / "leireg", "lines"], stdin=subprocess.DEVNULL, check=True)
+    program = given.program or PROGRAM
     print(f"{datetime.date.today()}, {os.cpu_count()} processors, load {os.getloadavg()[0]:.1f}")
     with tempfile.TemporaryDirectory() as name:
         folder = pathlib.Path(name)
-        reader = build(folder)
-        for uploads in (8, 16, 32):
-            sent = list(bodies(uploads, lambda number: 1000 + number))
-            new, most, accepted = answer(PROGRAM, sent)
-            same, least_most, _ = answer(PROGRAM, bodies(uploads, lambda number: 1000))
+        reader = given.reader or build(folder)
+        for count in SIZES:
+            sent = list(bodies(count, lambda number: 1000 + number))
+            uploads = len(sent)
+            new, most, accepted = answer(program, sent)
+            same, least_most, _ = answer(program, bodies(count, lambda number: 1000))
             alone, ready = read(reader, folder, sent)
             if accepted != ready:
                 sys.exit(f"{accepted} records were accepted, and {ready} made ready")
             print(f"{uploads:3} uploads, {accepted:6} records   {new:6.2f} s   {new / uploads * 1000:6.1f} ms an upload"
                   f"   one LEI {same:6.2f} s   read and made ready {alone:6.2f} s   ratio {new / alone:4.2f}"
-                  f"   {(most - least_most) / (uploads * RECORDS):6.0f} bytes a row")
+                  f"   {(most - least_most) / count:6.0f} bytes a row")
 
 
 if __name__ == "__main__":
