@@ -49,7 +49,7 @@ fn printed_text(alloc: Global, item: &Item) -> Result<Shared, NoMemory>
     Shared::of(alloc, item_text(alloc, item)?.into_vec())
 }
 
-/// An item that its holders share, with its JSON record if that was printed. One more holder needs no memory for either.
+/// An item that its holders share, with its JSON record if that was printed. One more holder needs no memory for them.
 /// Contracts see the item.
 #[derive(Debug, Drop)]
 pub struct SharedItem {
@@ -134,8 +134,8 @@ impl ItemRow {
         ItemRow { item }
     }
 
-    /// The texts of the row: its line in CSV, in two parts, and its record in JSON. If the record was printed before, it
-    /// is shared.
+    /// The texts of the row: its line in CSV, in two parts, and its record in JSON. If the record was printed before,
+    /// it is shared.
     pub fn texts(&self, alloc: Global) -> Result<RowTexts, NoMemory>
         ensures { IfOk result (λ texts. texts ≡ row_renderings self.now) }
     {

@@ -47,7 +47,7 @@ impl Lei {
         Ok(Lei { text: own })
     }
 
-    /// The code with these characters, which must be one and aren't checked again.
+    /// The code with these 20 characters. They must be those of a code, and aren't checked again.
     pub fn of_valid(text: &[u8]) -> Lei
         requires { IsValid text.now }
         ensures { result ≡ text.now }

@@ -23,7 +23,7 @@ pub fn folded<L: Ledger>(
     texts_of(alloc, words)
 }
 
-/// The same as words that an index keeps.
+/// The same words in the form that an index keeps.
 pub fn words_in_step<L: Ledger>(
     alloc: Global,
     text: &str,

@@ -125,8 +125,8 @@ impl Table {
     }
 
     /// Puts the writes of the entry with this number, from the first to the last. Each key that is written then has the
-    /// number. If `prints` is set, the JSON record of each item is printed and held with it, so that nobody who needs it
-    /// prints it again. If memory runs out, the table stays as it was, and so do the writes that can be undone.
+    /// number. If `prints` is set, the JSON record of each item is printed and held with it, so that nobody prints it
+    /// again. If memory runs out, the table stays as it was, and so do the writes that can be undone.
     pub fn apply(&mut self, writes: &Writes, entry: u64, prints: bool) -> Result<(), NoMemory>
         requires may { MayApply writes.now (rows self.old.held) }
         requires later { IsLater entry self.old.held }
