@@ -1,5 +1,4 @@
 pub mod FileReading
-pub mod Stopping
 pub mod TwoFilesRead
 pub mod Applied
 pub mod Grouped

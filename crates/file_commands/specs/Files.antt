@@ -1,16 +1,12 @@
--- Inputs of lines, and files that are read to their ends. This project's profile.
+-- Files that are read to their ends. This project's profile.
 use Rattle.std.specs.Prelude.{◌≡◌, ◌<◌, ℕ, List, length, Option}
 use Rattle.lei_outside.specs.Told.{IsAtEnd, Loses}
-use Rattle.file_commands.specs.declared.status.Stop.{Stop}
-use Rattle.file_commands.specs.declared.status.Stop.TheVariants as stops
+use Rattle.command_ends.specs.declared.stop.Stop.{Stop}
+use Rattle.command_ends.specs.declared.stop.Stop.TheVariants as stops
 
 -- Reading a file ends at 1,073,741,824 bytes (1 GiB).
 abbrev pub file_limit : ℕ
 file_limit = 1_073_741_824
-
--- A run over lines ends if it has read 4,294,967,296 bytes (4 GiB).
-abbrev pub run_limit : ℕ
-run_limit = 4_294_967_296
 
 -- These bytes were read, and the file ends after them. Their number is below the one at which reading ends.
 pub record IsReadWhole (before after : Option (List ℕ)) (bytes : List ℕ) : Type 0 where

@@ -1,5 +1,4 @@
 pub mod Codes
-pub mod Status
 pub mod Files
 pub mod TwoFiles
 pub mod Applying

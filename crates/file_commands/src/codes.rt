@@ -6,10 +6,9 @@ ghost use Rattle.lei_code.specs.Digits.{digits};
 ghost use Rattle.lei_code.specs.Fault.{fault_of};
 ghost use Rattle.file_commands.specs.Codes.{check_line, digits_fault, digits_line, line_or, WritesLine};
 ghost use Rattle.request_loop.specs.Wires.{IsSent};
-ghost use Rattle.file_commands.specs.Status.{end_status};
+ghost use Rattle.command_ends.specs.Status.{end_status};
 
-use crate::status::Stop;
-use crate::writing::write_pieces;
+use command_ends::{Stop, write_pieces};
 use lei_code::{Lei, LeiFault, check_digits};
 use lei_outside::{Sink, SinkFault};
 

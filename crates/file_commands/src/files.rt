@@ -6,7 +6,7 @@ ghost use Rattle.lei_outside.specs.Faults.{FailsLast};
 ghost use Rattle.request_loop.specs.Devices.{FailsIf};
 ghost use Rattle.file_commands.specs.Files.{IsFileStop, IsReadWhole};
 
-use crate::status::Stop;
+use command_ends::Stop;
 use lei_outside::{Bytes, Failed, NoMemory, Source, SureSource};
 use line_reading::BLOCK;
 use std::alloc::Global;

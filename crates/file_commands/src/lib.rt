@@ -7,7 +7,6 @@ mod files;
 mod grouping;
 mod mirroring;
 mod searching;
-mod status;
 mod writing;
 
 pub use applying::apply;
@@ -15,6 +14,5 @@ pub use codes::{check, digits};
 pub use files::{MAX_FILE, no_file};
 pub use grouping::group;
 pub use mirroring::mirror;
-pub use searching::{MAX_INPUT, search};
-pub use status::{Stop, ended_as, status_text};
-pub use writing::{tell_text, write_pieces};
+pub use searching::search;
+pub use writing::tell_text;

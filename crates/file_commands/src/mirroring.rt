@@ -6,10 +6,9 @@ ghost use Rattle.mirror_queries.specs.Grammar.{mirror_says};
 ghost use Rattle.query_reading.specs.QueryFrames.{HoldsQuery};
 ghost use Rattle.file_commands.specs.Mirroring.{AnswersMirror, Mirrors};
 ghost use Rattle.file_commands.specs.Sides.{sides};
-ghost use Rattle.file_commands.specs.Status.{end_status};
+ghost use Rattle.command_ends.specs.Status.{end_status};
 
-use crate::searching::MAX_INPUT;
-use crate::status::{Stop, ended_as};
+use command_ends::{MAX_INPUT, Stop, ended_as};
 use lei_outside::{Sink, Source};
 use mirror_queries::{MirrorGrammar, MirrorServer, serve_mirror};
 use query_reading::QueryFraming;

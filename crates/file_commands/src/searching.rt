@@ -8,10 +8,10 @@ ghost use Rattle.query_reading.specs.QueryFrames.{HoldsQuery};
 ghost use Rattle.file_commands.specs.Searching.{AnswersCopy, AnswersFrom, Searches, copy_refusal};
 ghost use Rattle.file_commands.specs.Sides.{sides};
 ghost use Rattle.file_commands.specs.TwoFiles.{OneFailsIf, WritesOutcome, files};
-ghost use Rattle.file_commands.specs.Status.{end_status};
+ghost use Rattle.command_ends.specs.Status.{end_status};
 
 use crate::files::read_file;
-use crate::status::{Stop, ended_as};
+use command_ends::{MAX_INPUT, Stop, ended_as};
 use copy_csv::{Form, FormFault, Sheet};
 use copy_forms::read_copy;
 use lei_outside::{Sink, Source};
@@ -22,9 +22,6 @@ use std::alloc::Global;
 use std::marker::Brand;
 use std::sync::ledger::{Blank, Ledger};
 use worker_pool::Steps;
-
-/// A run over lines ends at this number of input bytes. This project's profile.
-pub const MAX_INPUT: usize = 4_294_967_296;
 
 /// Reads a copy of `lei` to its end, and then answers the queries of the input over it. If the file isn't a copy, it
 /// writes that instead.

@@ -1,11 +1,11 @@
 //! What commands write.
-ghost use Rattle.std.specs.Prelude.{◌∷◌, ◌++◌, [], Ok, decimal, flat_map, IsErrOf};
+ghost use Rattle.std.specs.Prelude.{◌∷◌, ◌++◌, [], Ok, decimal, IsErrOf};
 ghost use Rattle.request_loop.specs.Devices.{FailsIf};
 ghost use Rattle.request_loop.specs.Wires.{IsSent};
 ghost use Rattle.file_commands.specs.TwoFiles.{WritesOutcome};
-ghost use Rattle.file_commands.specs.Status.{end_status};
+ghost use Rattle.command_ends.specs.Status.{end_status};
 
-use crate::status::Stop;
+use command_ends::{Stop, write_pieces};
 use lei_outside::{Sink, SinkFault, write_all};
 
 /// Writes a text.
@@ -32,16 +32,4 @@ pub fn write_numbers<W: Sink>(
     let first = low.format(first).as_bytes();
     let second = high.format(second).as_bytes();
     write_pieces(out, &[front, first, b" ", second, b"\n"])
-}
-
-/// Writes pieces of a text, one after another.
-pub fn write_pieces<W: Sink>(out: &mut W, pieces: &[&[u8]]) -> Result<(), SinkFault>
-    ensures written { IsSent (W.written out.old) (W.written out.new)
-        (flat_map (λ piece. piece.now) pieces.now) result }
-    ensures writes { FailsIf (IsErrOf result SinkFault.Failed) W.written W.faults out.old out.new }
-{
-    for piece in pieces {
-        write_all(out, piece)?;
-    }
-    Ok(())
 }

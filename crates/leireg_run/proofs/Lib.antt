@@ -1,4 +1,2 @@
-pub mod Ending
-pub mod Fitting
 pub mod Completing
 pub mod Unopened

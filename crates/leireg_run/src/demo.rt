@@ -2,9 +2,10 @@
 ghost use Rattle.std.specs.Prelude.{◌≤◌, IsErrOf};
 ghost use Rattle.request_loop.specs.Devices.{FailsIf};
 ghost use Rattle.leireg_run.specs.Ends.{WritesSummary};
-ghost use Rattle.file_commands.specs.Status.{end_status};
+ghost use Rattle.command_ends.specs.Status.{end_status};
 
-use file_commands::{Stop, tell_text};
+use command_ends::Stop;
+use file_commands::tell_text;
 use lei_outside::Sink;
 use register_demo::demo;
 use std::alloc::Global;

@@ -2,11 +2,10 @@
 #![tactic(auto)]
 
 mod command;
-mod damage;
 mod demo;
 mod laws;
 mod program;
 
-pub use file_commands::{MAX_FILE, MAX_INPUT, no_file, status_text};
+pub use file_commands::no_file;
 pub use laws::mirrors_show_copies_of_histories;
 pub use program::run;

@@ -1,5 +1,5 @@
 use Rattle.std.proofs.Common.{Err, Ok, inl, refl}
-use Rattle.leireg_run.proofs.program.tell_damage.Goals as goal
+use Rattle.line_service.proofs.damage.tell_damage.Goals as goal
 
 pub returns-in-Ok-clause-stop : goal.returns-in-Ok-clause-stop
 returns-in-Ok-clause-stop g c = inl (refl, Ok (tt {0}), c.in-Ok.ensures.written)

@@ -1,7 +1,7 @@
 use Rattle.std.proofs.Common.{ℕ, List, ◌++◌, codes, subst, ◌∙◌}
 use Rattle.std.specs.Fmt.{decimal}
 use Rattle.request_loop.specs.Wires.{IsSent}
-use Rattle.leireg_run.proofs.damage.write_damage.Goals as goal
+use Rattle.line_service.proofs.damage.write_damage.Goals as goal
 
 pub returns-clause-written : goal.returns-clause-written
 returns-clause-written g c =

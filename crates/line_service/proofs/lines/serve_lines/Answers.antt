@@ -6,15 +6,15 @@ use Rattle.request_loop.specs.Serving.{progress}
 use Rattle.lei_office.specs.Answering.{OfficeStep, StepsBy, with_count}
 use Rattle.lei_office.proofs.Sessions.{serves_untold}
 use Rattle.line_reading.specs.LineFrames.{line_rules}
-use Rattle.leireg_run.specs.Ends.{RunsFrom}
-use Rattle.leireg_run.specs.Outside.{outside}
-use Rattle.file_commands.specs.Files.{run_limit}
-use Rattle.file_commands.specs.Status.{end_status, ended_as}
-use Rattle.file_commands.specs.declared.status.Stop.{Stop}
-use Rattle.leireg_run.proofs.Ending.{runs_served}
-use Rattle.leireg_run.proofs.Fitting.{lines_fit}
-use Rattle.file_commands.proofs.Stopping.{only_read_fault, only_write_fault}
-use Rattle.leireg_run.proofs.program.serve_lines.Goals as goal
+use Rattle.line_service.specs.Ends.{RunsFrom}
+use Rattle.line_service.specs.Outside.{outside}
+use Rattle.command_ends.specs.Inputs.{run_limit}
+use Rattle.command_ends.specs.Status.{end_status, ended_as}
+use Rattle.command_ends.specs.declared.stop.Stop.{Stop}
+use Rattle.line_service.proofs.Ending.{runs_served}
+use Rattle.line_service.proofs.Fitting.{lines_fit}
+use Rattle.command_ends.proofs.Stopping.{only_read_fault, only_write_fault}
+use Rattle.line_service.proofs.lines.serve_lines.Goals as goal
 
 pub serve-requires-clause-fits : goal.serve-requires-clause-fits
 serve-requires-clause-fits g c = lines_fit _ (with_count g.K.Keeper.tables g.K.Keeper.faults) (record { shared = c.type_bounds.sync-R.shared })

@@ -1,6 +1,6 @@
 use Rattle.std.proofs.Common.{◌≡◌, [], take, flat_map}
 use Rattle.line_reading.specs.WriteBuffer.{Sends}
-use Rattle.file_commands.proofs.writing.write_pieces.Given as goal
+use Rattle.command_ends.proofs.writing.write_pieces.Given as goal
 
 abbrev pub invariant-loop-piece : goal.invariant-loop-piece
 invariant-loop-piece g l =

@@ -1,11 +1,14 @@
-//! The statuses that the program ends with.
+//! Why a command stops, and the status that it ends with.
 ghost use Rattle.std.specs.Prelude.{◌≡◌};
-ghost use Rattle.file_commands.specs.Status.{ended_as, exit_text, stop_status};
+ghost use Rattle.command_ends.specs.Status.{ended_as, stop_status};
 
 use lei_outside::{Failed, NoMemory, SinkFault};
 use line_reading::NoEnd;
 use register_words::ExitStatus;
 use request_loop::Ended;
+
+/// A run over lines ends at this number of input bytes. This project's profile.
+pub const MAX_INPUT: usize = 4_294_967_296;
 
 /// Why a command ends with a status other than `ExitStatus::Ok`.
 pub enum Stop {
@@ -35,7 +38,7 @@ impl Stop {
 }
 
 impl From<Failed> for Stop {
-    ghost use Rattle.file_commands.specs.declared.status.Stop.TheVariants.{ReadFault};
+    ghost use Rattle.command_ends.specs.declared.stop.Stop.TheVariants.{ReadFault};
 
     ghost from_gives = { λ _ stop. stop ≡ ReadFault };
 
@@ -45,7 +48,7 @@ impl From<Failed> for Stop {
 }
 
 impl From<SinkFault> for Stop {
-    ghost use Rattle.file_commands.specs.Status.{stop_of};
+    ghost use Rattle.command_ends.specs.Status.{stop_of};
 
     ghost from_gives = { λ fault stop. stop ≡ stop_of fault };
 
@@ -58,7 +61,7 @@ impl From<SinkFault> for Stop {
 }
 
 impl From<NoMemory> for Stop {
-    ghost use Rattle.file_commands.specs.declared.status.Stop.TheVariants as stop;
+    ghost use Rattle.command_ends.specs.declared.stop.Stop.TheVariants as stop;
 
     ghost from_gives = { λ _ e. e ≡ stop.NoMemory };
 
@@ -78,15 +81,5 @@ pub fn ended_as(ended: Ended<NoEnd>) -> Result<(), Stop>
         Ended::WriteFault => Err(Stop::WriteFault),
         Ended::InputLimit => Err(Stop::InputTooLong),
         Ended::NoMemory => Err(Stop::NoMemory),
-    }
-}
-
-/// The word of a status, for a person.
-pub fn status_text(status: u8) -> &'static str
-    ensures { result.now ≡ exit_text status }
-{
-    match ExitStatus::of(status) {
-        Some(status) => status.name(),
-        None => "UNKNOWN",
     }
 }

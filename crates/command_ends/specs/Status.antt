@@ -1,14 +1,13 @@
--- Statuses that the program ends with, and their words.
-use Rattle.std.specs.Prelude.{ℕ, codes, Option, Some, None, Result, Ok, Err}
-use Rattle.lei_code.specs.Texts.{Text}
-use Rattle.register_words.specs.ExitStatuses.{exit_name, exit_number, exit_of}
+-- Statuses that the program ends with.
+use Rattle.std.specs.Prelude.{ℕ, Result, Ok, Err}
+use Rattle.register_words.specs.ExitStatuses.{exit_number}
 use Rattle.register_words.specs.declared.exit_status.ExitStatus.{ExitStatus}
 use Rattle.lei_outside.specs.declared.faults.SinkFault.{SinkFault}
 use Rattle.lei_outside.specs.declared.faults.SinkFault.TheVariants.{Failed, NoMemory}
 use Rattle.request_loop.specs.declared.frames.Ended.{Ended}
 use Rattle.line_reading.specs.declared.framing.NoEnd.{NoEnd}
-use Rattle.file_commands.specs.declared.status.Stop.{Stop}
-use Rattle.file_commands.specs.declared.status.Stop.TheVariants as stop
+use Rattle.command_ends.specs.declared.stop.Stop.{Stop}
+use Rattle.command_ends.specs.declared.stop.Stop.TheVariants as stop
 
 -- The status of a command that stops for this reason.
 abbrev pub stop_status : Stop → ℕ
@@ -38,12 +37,3 @@ ended_as Ended.ReadFault = Err stop.ReadFault
 ended_as Ended.WriteFault = Err stop.WriteFault
 ended_as Ended.InputLimit = Err stop.InputTooLong
 ended_as Ended.NoMemory = Err stop.NoMemory
-
--- The word of a status, if there is one.
-abbrev pub status_word : Option ExitStatus → Text
-status_word (Some status) = exit_name status
-status_word None = codes "UNKNOWN"
-
--- The word of the status with this number.
-abbrev pub exit_text : ℕ → Text
-exit_text status = status_word (exit_of status)

@@ -2,7 +2,7 @@ use Rattle.std.proofs.Common.{◌∙◌, ℕ, [], List, take, flat_map, sym, sub
 use Rattle.std.proofs.lemmas.Result.{MatchResult-from_err}
 use Rattle.line_reading.specs.WriteBuffer.{Sends}
 use Rattle.line_reading.proofs.Sending.{Sends-nothing, pieces_more, refused, sent_then}
-use Rattle.file_commands.proofs.writing.write_pieces.Goals as goal
+use Rattle.command_ends.proofs.writing.write_pieces.Goals as goal
 
 pub loop-piece-init : goal.loop-piece-init
 loop-piece-init g c = record { sent = Sends-nothing (g.W.Sink.written c.args.out.now) []; kept = refl }

@@ -3,11 +3,12 @@ use Rattle.lei_outside.specs.Keeping.{KeptTables, TablesStay}
 use Rattle.register_history.specs.Kept.{StaysUntold}
 use Rattle.register_words.specs.Limits.{standard}
 use Rattle.lei_office.specs.Offices.{FaultRose, IsRefused, keeper_back}
-use Rattle.leireg_run.specs.Ends.{MayTell, RunsFrom}
-use Rattle.leireg_run.specs.Outside.{Outside, outside}
-use Rattle.file_commands.specs.Status.{end_status}
-use Rattle.leireg_run.proofs.Unopened.{damaged_opening, opens_runs}
-use Rattle.leireg_run.proofs.program.run_lines.Goals as goal
+use Rattle.line_service.specs.Ends.{RunsFrom}
+use Rattle.line_service.specs.Opened.{MayTell}
+use Rattle.line_service.specs.Outside.{Outside, outside}
+use Rattle.command_ends.specs.Status.{end_status}
+use Rattle.line_service.proofs.Opening.{damaged_opening, opens_runs}
+use Rattle.line_service.proofs.lines.run_lines.Goals as goal
 
 pub returns-in-Ok-open_office-clause-runs : goal.returns-in-Ok-open_office-clause-runs
 returns-in-Ok-open_office-clause-runs g c =

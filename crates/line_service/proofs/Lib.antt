@@ -1,0 +1,4 @@
+pub mod Ending
+pub mod Fitting
+pub mod Completing
+pub mod Opening

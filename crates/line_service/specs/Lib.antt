@@ -1,0 +1,4 @@
+pub mod Opened
+pub mod Outside
+pub mod Runs
+pub mod Ends
