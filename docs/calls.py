@@ -20,7 +20,7 @@ from readmes import CALL, CLAUSE, ROOT, block_name, crates, exports
 
 PAGE = ROOT / "docs" / "CALLS.md"
 MARK = "<!-- what follows is made by docs/calls.py -->"
-APART = {"example_sessions", "worked_examples", "register_tests", "leireg"}
+APART = {"example_sessions", "worked_examples", "register_tests", "leireg", "leireg_lines"}
 VARIANT = re.compile(r"^    (\w+)(?:\((.*)\)|(?: \{.*)?),?$")
 # The types of results whose variants say how a call ended.
 OUTCOMES = [
