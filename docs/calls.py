@@ -30,10 +30,7 @@ OUTCOMES = [
 ]
 # The state after a call that may be refused and has an argument that it could change: the clauses of its README on it.
 LEFT = {
-    "lei_outside.Keeper::last": "same crash",
-    "lei_outside.Keeper::entries": "same crash",
-    "lei_outside.Keeper::cells": "same crash",
-    "lei_outside.Keeper::commit": "tables crash",
+    "lei_values.Texts::push": "err",
     "lei_outside.Link::read": "bytes written write_count",
     "lei_outside.Link::write": "bytes left read_count",
     "lei_outside.send_all": "front failed left read_count",
@@ -41,7 +38,10 @@ LEFT = {
     "lei_outside.write_all": "front failed",
     "lei_outside.Source::read": "bytes",
     "lei_outside.Door::next": "lines out back",
-    "lei_outside.Texts::push": "err",
+    "lei_keeper.Keeper::last": "same crash",
+    "lei_keeper.Keeper::entries": "same crash",
+    "lei_keeper.Keeper::cells": "same crash",
+    "lei_keeper.Keeper::commit": "tables crash",
     "keeper_sqlite.Cause::note": "",
     "keeper_sqlite.SqliteKeeper::into_connection": "—",
     "request_loop.Answers::answer": "—",

@@ -15,8 +15,8 @@ import sys
 
 ROOT = pathlib.Path(__file__).resolve().parent.parent
 PAGE = ROOT / "docs" / "DEFINITIONS.md"
-CALLS = ["lei_outside", "lei_code", "register_history", "delta_apply", "program_words", "keeper_sqlite", "lei_office",
-         "lei_hall", "issuer_http", "line_service", "leireg_run", "leireg_serve"]
+CALLS = ["lei_values", "lei_outside", "lei_keeper", "memory_devices", "lei_code", "register_history", "delta_apply",
+         "program_words", "keeper_sqlite", "lei_office", "lei_hall", "issuer_http", "line_service", "leireg_run", "leireg_serve"]
 HEAD = """# Definitions
 
 The definitions that the contracts of the public calls reach, crate by crate, from the lowest up, each with its type. The public calls are those of {calls}. The page is made by `docs/definitions.py` from the comments in `crates/*/specs`, which are right above the definitions: change them there. `docs/definitions.py --check` reports whether the page is stale. What is defined for parts of the program alone, or for proofs, isn't here.

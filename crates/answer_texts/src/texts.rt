@@ -4,8 +4,8 @@ ghost use Rattle.serde_json.specs.View.{view, items_view};
 ghost use Rattle.answer_texts.specs.Answers.{accreditation_answer, accreditation_text, publication_answer, publication_text, status_answer, status_answer_text, upload_answer, upload_text, verdict_text, strings};
 
 use lei_code::Lei;
-use lei_outside::{Bytes, NoMemory};
 use lei_shapes::Moment;
+use lei_values::{Bytes, NoMemory};
 use register_judge::Verdict;
 use serde_json::{Value, json};
 use std::alloc::Global;

@@ -8,9 +8,9 @@ ghost use Rattle.cell_reads.specs.Needs.{key_names, named_cells};
 
 use authority_rules::key_of;
 use lei_code::Lei;
-use lei_outside::{NoMemory, Text};
 use lei_records::{CellKey, ExceptionItem, Item, Readied, Record, Relation};
 use lei_shapes::ExceptionCategory;
+use lei_values::{NoMemory, Text};
 use relation_rules::{parent_category, parent_type};
 use std::alloc::Global;
 

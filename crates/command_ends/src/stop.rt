@@ -2,7 +2,8 @@
 ghost use Rattle.std.specs.Prelude.{◌≡◌};
 ghost use Rattle.command_ends.specs.Status.{ended_as, stop_status};
 
-use lei_outside::{Failed, NoMemory, SinkFault};
+use lei_outside::{Failed, SinkFault};
+use lei_values::NoMemory;
 use line_reading::NoEnd;
 use register_words::ExitStatus;
 use request_loop::Ended;

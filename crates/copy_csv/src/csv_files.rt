@@ -12,7 +12,7 @@ use crate::csv_text::{put_joined, put_names, put_row};
 use crate::faults::FormFault;
 use crate::heads::{CopyRead, DeltaRead};
 use crate::rows::{RowTexts, TextChange};
-use lei_outside::{Bytes, NoMemory};
+use lei_values::{Bytes, NoMemory};
 use register_words::Sheet;
 use std::alloc::Global;
 use std::str;

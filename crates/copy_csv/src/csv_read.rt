@@ -6,7 +6,7 @@ ghost use Rattle.copy_csv.specs.Taking.{SkipsAll, TakesPart, read_with_rest, tak
 
 use crate::ends::Ends;
 use crate::texts::Texts;
-use lei_outside::NoMemory;
+use lei_values::NoMemory;
 use memchr::memchr;
 use std::alloc::Global;
 use std::marker::Model;

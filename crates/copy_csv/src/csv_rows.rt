@@ -14,7 +14,7 @@ use crate::faults::FormFault;
 use crate::rows::{Change, Row};
 use crate::sheets::{columns, width};
 use crate::texts::Texts;
-use lei_outside::{List, NoMemory};
+use lei_values::{List, NoMemory};
 use register_words::Sheet;
 use std::alloc::Global;
 

@@ -8,7 +8,7 @@ ghost use Rattle.lei_records.specs.Sheets.{read_texts};
 use crate::rows::{Row, RowTexts};
 use crate::sheets::{columns, name_at, width};
 use csv::{QuoteStyle, WriterBuilder};
-use lei_outside::{Bytes, NoMemory};
+use lei_values::{Bytes, NoMemory};
 use register_words::Sheet;
 use std::alloc::Global;
 use std::mem;

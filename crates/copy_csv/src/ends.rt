@@ -2,7 +2,7 @@
 ghost use Rattle.std.specs.Prelude.{◌≡◌, ◌==◌, ◌<◌, ◌++◌, ◌∷◌, [], length, get_or, IfOk, OnOk, OnErr};
 ghost use Rattle.copy_csv.specs.Cuts.{IsSpan};
 
-use lei_outside::NoMemory;
+use lei_values::NoMemory;
 use std::alloc::Global;
 use std::marker::Model;
 

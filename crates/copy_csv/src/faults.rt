@@ -1,7 +1,7 @@
 //! The reasons why a text wasn't read, with a message for each.
 ghost use Rattle.std.specs.Prelude.{◌≡◌};
 
-use lei_outside::NoMemory;
+use lei_values::NoMemory;
 use std::alloc::{AllocError, AllocFailed};
 use std::error::Error;
 use std::fmt;

@@ -1,7 +1,7 @@
 //! Heads of golden copies and of deltas, and what reading a whole copy or delta returns.
 use crate::rows::{Change, Row};
-use lei_outside::List;
 use lei_shapes::Moment;
+use lei_values::List;
 
 /// The head of a copy or a delta in JSON. In CSV it isn't printed.
 #[derive(Clone, Copy, Debug, PartialEq, Eq)]

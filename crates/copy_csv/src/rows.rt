@@ -6,7 +6,7 @@ ghost use Rattle.copy_csv.specs.Sheets as spec;
 
 use crate::sheets::{key_len, width};
 use crate::texts::Texts;
-use lei_outside::{Bytes, Shared};
+use lei_values::{Bytes, Shared};
 use register_words::Sheet;
 use std::cmp::Ordering;
 use std::marker::Model;

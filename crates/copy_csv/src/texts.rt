@@ -6,7 +6,7 @@ ghost use Rattle.lei_records.specs.Rows.{text_at};
 ghost use Rattle.copy_csv.specs.Cuts.{IsCut, parts_at_ends};
 
 use crate::ends::Ends;
-use lei_outside::NoMemory;
+use lei_values::NoMemory;
 use std::alloc::Global;
 use std::marker::Model;
 use std::str;

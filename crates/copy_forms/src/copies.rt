@@ -17,7 +17,7 @@ use copy_csv::{
     CopyRead, DeltaRead, Form, FormFault, Head, RowTexts, Sheet, TextChange, are_changes_rising,
     are_rows_rising, csv_copy_text, csv_delta_text, read_csv_copy, read_csv_delta,
 };
-use lei_outside::{Bytes, List, NoMemory};
+use lei_values::{Bytes, List, NoMemory};
 use std::alloc::Global;
 
 /// Reads a copy. Unless memory runs out, it succeeds if and only if the bytes are the text of some head and rows of the

@@ -10,8 +10,8 @@ use crate::json_text::places;
 use copy_csv::sheets::{name_at, width};
 use copy_csv::{Row, Sheet, Texts};
 use json::Writer;
-use lei_outside::{Bytes, NoMemory};
 use lei_records::{FieldTexts, Item};
+use lei_values::{Bytes, NoMemory};
 use std::alloc::Global;
 
 /// The row of an item, whose texts are copied into one piece of memory.

@@ -14,7 +14,7 @@ use crate::json_heads::{base_from, count_from, date_from, publication_from};
 use crate::json_read::{leads, record_from};
 use crate::json_strings::after;
 use copy_csv::{Change, FormFault, Head, Row, Sheet};
-use lei_outside::Bytes;
+use lei_values::Bytes;
 use std::alloc::Global;
 
 /// The head and the rows of a copy. It doesn't check that the keys rise.

@@ -11,7 +11,7 @@ use crate::json_text::places;
 use copy_csv::sheets::name_at;
 use copy_csv::{FormFault, Row, Sheet, Texts};
 use json::Writer;
-use lei_outside::{Bytes, NoMemory};
+use lei_values::{Bytes, NoMemory};
 use std::alloc::Global;
 use std::str;
 

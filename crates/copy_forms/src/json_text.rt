@@ -7,7 +7,7 @@ ghost use Rattle.copy_csv.specs.Sheets;
 use copy_csv::sheets::{name_at, width};
 use copy_csv::{Row, Sheet};
 use json::Writer;
-use lei_outside::{Bytes, NoMemory};
+use lei_values::{Bytes, NoMemory};
 use std::alloc::Global;
 
 // The places of each sheet's fields, in byte order of the names.

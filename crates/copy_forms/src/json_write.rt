@@ -9,8 +9,8 @@ ghost use Rattle.copy_forms.specs.JsonTexts.{before_copy, before_delta, records_
 use crate::json_text::record_text;
 use copy_csv::{Head, Row, RowTexts, TextChange};
 use json::Writer;
-use lei_outside::{Bytes, NoMemory};
 use lei_shapes::Moment;
+use lei_values::{Bytes, NoMemory};
 use std::alloc::Global;
 use std::str;
 

@@ -4,7 +4,7 @@ ghost use Rattle.copy_forms.specs.Files.{row_renderings};
 
 use crate::json_text::record_text;
 use copy_csv::{Row, RowTexts, line_texts};
-use lei_outside::{NoMemory, Shared};
+use lei_values::{NoMemory, Shared};
 use std::alloc::Global;
 
 /// The texts of a row: its line in CSV, in two parts, and its record in JSON.

@@ -5,8 +5,8 @@ ghost use Rattle.copy_forms.specs.Items.{item_text, sheet_row};
 
 use crate::items::{item_row, item_text};
 use copy_csv::{RowTexts, line_texts};
-use lei_outside::{NoMemory, Shared};
 use lei_records::Item;
+use lei_values::{NoMemory, Shared};
 use std::alloc::Global;
 use std::marker::Model;
 use std::sync::Arc;

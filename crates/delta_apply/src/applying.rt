@@ -12,7 +12,7 @@ use crate::csv::patch_csv;
 use crate::fault::ApplyFault;
 use crate::json::patch_json;
 use copy_forms::{CopyRead, DeltaRead, Form, FormFault, Head, Sheet, read_copy, read_delta};
-use lei_outside::{Bytes, NoMemory};
+use lei_values::{Bytes, NoMemory};
 use std::alloc::Global;
 
 /// The copy after the delta, in the delta's width. Faults are reported in the order of `ApplyFault`. `CopyNotRead` and

@@ -15,7 +15,7 @@ ghost use Rattle.delta_apply.specs.Walks.{AreLinesPatched, IsPatchedCsv, PutsLin
 use crate::fault::ApplyFault;
 use copy_csv::{Reader, copy_head, copy_lines, put_row, read_csv_copy, read_row};
 use copy_forms::{Change, DeltaRead, FormFault, Row, Sheet, place_row};
-use lei_outside::{Bytes, NoMemory};
+use lei_values::{Bytes, NoMemory};
 use std::alloc::Global;
 
 /// The copy after this delta, with capacity for at least `room` bytes. `CopyNotRead` says that the bytes aren't a copy,

@@ -7,7 +7,7 @@ ghost use Rattle.copy_forms.specs.Patching.{patched};
 ghost use Rattle.copy_forms.specs.Merging.{PassesRow, put_by};
 
 use copy_forms::{Change, Head, Row, Sheet, json_rows_text, place_row};
-use lei_outside::{Bytes, NoMemory};
+use lei_values::{Bytes, NoMemory};
 use std::alloc::Global;
 
 /// The copy of these rows after the changes, with this head. It reserves `room` bytes for the rows.

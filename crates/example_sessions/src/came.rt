@@ -2,7 +2,7 @@
 ghost use Rattle.std.specs.Prelude.{◌≡◌, ◌↔◌, IsTrue};
 
 use crate::run::Run;
-use lei_outside::Bytes;
+use lei_values::Bytes;
 
 /// The result of a run: the bytes that were written, and the status.
 #[derive(Drop)]

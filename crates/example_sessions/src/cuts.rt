@@ -2,7 +2,7 @@
 ghost use Rattle.std.specs.Prelude.{◌≡◌, ◌<◌, map, option_map, IfOk};
 ghost use Rattle.example_sessions.specs.Cuts;
 
-use lei_outside::{NoMemory, Text};
+use lei_values::{NoMemory, Text};
 use std::alloc::{AllocError, Global};
 
 /// The text before the first of these characters and the text after it, if there is one.

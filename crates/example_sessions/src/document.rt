@@ -8,7 +8,7 @@ use crate::fault::Fault;
 use crate::filling::text_parts;
 use crate::session::Session;
 use crate::texts::{Named, text_named};
-use lei_outside::{List, NoMemory, Text};
+use lei_values::{List, NoMemory, Text};
 use std::alloc::Global;
 use std::marker::Model;
 

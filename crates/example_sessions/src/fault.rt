@@ -1,5 +1,5 @@
 //! Why a line can't be read.
-use lei_outside::NoMemory;
+use lei_values::NoMemory;
 use std::alloc::{AllocError, AllocFailed};
 
 /// Why a line can't be read.

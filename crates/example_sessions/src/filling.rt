@@ -8,7 +8,7 @@ use crate::cuts::{cut_text_at, pieces};
 use crate::fault::Fault;
 use crate::numbers::number_of;
 use crate::texts::{Named, Part, index_of, plain, text_named};
-use lei_outside::{NoMemory, Text};
+use lei_values::{NoMemory, Text};
 use std::alloc::Global;
 
 /// The parts of a text with these parameters, if these texts are known.

@@ -1,7 +1,7 @@
 //! Runs of the program, as a document requires them.
 ghost use Rattle.std.specs.Prelude.{◌≡◌, ◌++◌, ◌≤◌, [], map, IfOk, string_bytes};
-ghost use Rattle.lei_outside.specs.Keeping.{AreKept};
-ghost use Rattle.lei_outside.specs.Memory.{tables_of};
+ghost use Rattle.lei_values.specs.KeptTables.{AreKept};
+ghost use Rattle.memory_devices.specs.Memory.{tables_of};
 ghost use Rattle.example_sessions.specs.Reading.{ExampleGives};
 ghost use Rattle.example_sessions.specs.Sessions;
 ghost use Rattle.example_sessions.specs.Texts;
@@ -12,8 +12,9 @@ use crate::fault::Fault;
 use crate::filling::text_parts;
 use crate::numbers::number_of;
 use crate::texts::{Named, Part, put_filled};
-use lei_outside::{Bytes, KeptCell, KeptEntry, List, ListClock, MapKeeper, NoMemory, Text};
 use lei_shapes::Moment;
+use lei_values::{Bytes, KeptCell, KeptEntry, List, NoMemory, Text};
+use memory_devices::{ListClock, MapKeeper};
 use std::alloc::{AllocError, Global};
 use std::marker::Model;
 

@@ -7,7 +7,7 @@ use crate::cuts::cut_text_at;
 use crate::fault::Fault;
 use crate::run::Run;
 use crate::texts::Named;
-use lei_outside::NoMemory;
+use lei_values::NoMemory;
 use std::alloc::Global;
 use std::marker::Model;
 

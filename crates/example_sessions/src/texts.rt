@@ -3,7 +3,7 @@ ghost use Rattle.std.specs.Prelude.{◌≡◌, ◌++◌, IfOk};
 ghost use Rattle.std.specs.Option.{option_copied};
 ghost use Rattle.example_sessions.specs.Texts;
 
-use lei_outside::{Bytes, List, NoMemory, Text};
+use lei_values::{Bytes, List, NoMemory, Text};
 use std::alloc::Global;
 
 /// A part of a text: bytes as they are, or the hole of a parameter, by its index.

@@ -9,9 +9,9 @@ ghost use Rattle.fetched_cells.specs.Maps;
 ghost use Rattle.fetched_cells.specs.Maps.{fetched_view, value_at_texts};
 
 use lei_code::Lei;
-use lei_outside::NoMemory;
 use lei_records::{CellKey, RecCell, RelCell, Seen, View};
 use lei_shapes::{ExceptionCategory, RelationType};
+use lei_values::NoMemory;
 use std::alloc::Global;
 use std::collections::BTreeMap;
 

@@ -5,8 +5,8 @@ ghost use Rattle.fetched_cells.specs.Maps.{fetched_view};
 
 use crate::fetched::Fetched;
 use crate::filling::Filling;
-use lei_outside::NoMemory;
 use lei_records::{CellKey, View};
+use lei_values::NoMemory;
 use std::alloc::Global;
 
 /// A view of the cells with these keys. Two lists of cells follow each record among them. The first has the records of

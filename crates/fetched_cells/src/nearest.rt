@@ -9,8 +9,8 @@ ghost use Rattle.fetched_cells.specs.Nearest;
 ghost use Rattle.fetched_cells.specs.Nearest.{new_ones, unmet_leis};
 
 use lei_code::Lei;
-use lei_outside::NoMemory;
 use lei_records::{Seen, Successors};
+use lei_values::NoMemory;
 use std::alloc::Global;
 use std::collections::BTreeSet;
 use successor_rules::{Branches, is_among};

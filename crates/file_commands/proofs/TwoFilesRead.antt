@@ -3,7 +3,7 @@ use Rattle.std.proofs.Common.{◌≡◌, ◌≢◌, ◌⊎◌, ◌<◌, ◌≤�
 use Rattle.std.proofs.lemmas.List.{append-nil}
 use Rattle.std.specs.Result.{IsErrAnd}
 use Rattle.lei_code.specs.Texts.{Text}
-use Rattle.lei_outside.specs.Count.{Rose}
+use Rattle.lei_values.specs.Count.{Rose}
 use Rattle.lei_outside.specs.Faults.{FailsLast}
 use Rattle.lei_outside.specs.Told.{IsAtEnd, Loses}
 use Rattle.file_commands.specs.TwoFiles.{AreLeft, CompletesFiles, DoesWithFiles, FailsOneOf, FileOutcome, Files, Rule, WritesResultOf, outcome_status}

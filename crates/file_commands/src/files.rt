@@ -7,8 +7,10 @@ ghost use Rattle.request_loop.specs.Devices.{FailsIf};
 ghost use Rattle.file_commands.specs.Files.{IsFileStop, IsReadWhole};
 
 use command_ends::Stop;
-use lei_outside::{Bytes, Failed, NoMemory, Source, SureSource};
+use lei_outside::{Failed, Source};
+use lei_values::{Bytes, NoMemory};
 use line_reading::BLOCK;
+use memory_devices::SureSource;
 use std::alloc::Global;
 
 /// Reading a file ends at this number of bytes. This project's profile.

@@ -12,7 +12,8 @@ use command_ends::{Stop, write_pieces};
 use copy_csv::{Form, FormFault, Sheet};
 use copy_forms::read_copy;
 use group_reports::{GroupFault, Groups, ReportFault};
-use lei_outside::{Bytes, NoMemory, Sink, SinkFault, Source};
+use lei_outside::{Sink, SinkFault, Source};
+use lei_values::{Bytes, NoMemory};
 use std::alloc::Global;
 
 /// Why no report is made.

@@ -11,8 +11,8 @@ use crate::order::TextKey;
 use crate::side::Side;
 use copy_csv::sheets::width;
 use copy_csv::{Row, Sheet, TextChange, Texts};
-use lei_outside::NoMemory;
 use lei_records::RowKey;
+use lei_values::NoMemory;
 use std::alloc::Global;
 
 /// What a delta has for each of these keys of a sheet, according to the sheet's lines.

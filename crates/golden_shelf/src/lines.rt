@@ -7,8 +7,8 @@ ghost use Rattle.golden_shelf.specs.Places.{IsLinePlace, line_texts_at, with_tex
 
 use crate::keys::compare;
 use copy_csv::RowTexts;
-use lei_outside::NoMemory;
 use lei_records::RowKey;
+use lei_values::NoMemory;
 use std::alloc::Global;
 use std::cmp::Ordering;
 use std::marker::Model;

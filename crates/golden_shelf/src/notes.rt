@@ -7,8 +7,8 @@ ghost use Rattle.golden_shelf.specs.Sides.{NotesChange};
 
 use crate::lines::Note;
 use copy_forms::ItemRow;
-use lei_outside::{List, NoMemory};
 use lei_records::RowKey;
+use lei_values::{List, NoMemory};
 use std::alloc::Global;
 use std::sync::ledger::Ledger;
 use std::thread::Threads;

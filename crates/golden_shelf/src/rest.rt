@@ -8,8 +8,8 @@ ghost use Rattle.golden_shelf.specs.Walks.{below, first_order, lines_from, past,
 use crate::keys::compare;
 use crate::lines::Lines;
 use copy_csv::RowTexts;
-use lei_outside::NoMemory;
 use lei_records::RowKey;
+use lei_values::NoMemory;
 use std::alloc::Global;
 use std::cmp::Ordering;
 use std::marker::Model;

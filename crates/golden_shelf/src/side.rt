@@ -10,8 +10,8 @@ use crate::lines::{Lines, Note};
 use crate::rest::Rest;
 use crate::weaving::weave;
 use copy_csv::RowTexts;
-use lei_outside::NoMemory;
 use lei_records::RowKey;
+use lei_values::NoMemory;
 use std::alloc::Global;
 use std::marker::Model;
 

@@ -7,7 +7,7 @@ ghost use Rattle.golden_shelf.specs.Parts.{side_of};
 use crate::notes::Parts;
 use crate::side::Side;
 use copy_csv::{RowTexts, Sheet};
-use lei_outside::NoMemory;
+use lei_values::NoMemory;
 use std::alloc::Global;
 
 /// The lines of each sheet.

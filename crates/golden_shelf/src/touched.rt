@@ -8,8 +8,8 @@ ghost use Rattle.golden_shelf.specs.Keys.{is_key_of as is_key_of, key_texts};
 use crate::issue::Issue;
 use crate::order::TextKey;
 use copy_csv::Sheet;
-use lei_outside::NoMemory;
 use lei_records::RowKey;
+use lei_values::NoMemory;
 use std::alloc::Global;
 
 /// The keys of a sheet that these publications changed, in the order of their texts, each once.

@@ -13,7 +13,7 @@ ghost use Rattle.group_reports.specs.Places.{LeadsWithin, at, leis_of};
 use crate::kinds::{LinkKind, kind_of};
 use crate::places::Places;
 use copy_csv::{Row, Sheet};
-use lei_outside::NoMemory;
+use lei_values::NoMemory;
 use std::alloc::Global;
 
 /// A row: the place of its start, what it says of it, and the place of its end.

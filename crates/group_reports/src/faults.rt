@@ -3,7 +3,7 @@ ghost use Rattle.std.specs.Prelude.{◌≡◌};
 ghost use Rattle.group_reports.specs.declared.faults.GroupFault.TheVariants as opening;
 ghost use Rattle.group_reports.specs.declared.faults.ReportFault.TheVariants as reporting;
 
-use lei_outside::NoMemory;
+use lei_values::NoMemory;
 use std::alloc::{AllocError, AllocFailed};
 
 /// Why two copies aren't taken together.

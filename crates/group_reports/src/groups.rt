@@ -13,7 +13,7 @@ use crate::opening::check;
 use crate::reports::put_disagreements;
 use crate::texts::{group_text, lone_text};
 use copy_csv::CopyRead;
-use lei_outside::{Bytes, NoMemory};
+use lei_values::{Bytes, NoMemory};
 use std::alloc::Global;
 use std::marker::Model;
 

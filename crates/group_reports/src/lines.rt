@@ -2,7 +2,7 @@
 ghost use Rattle.std.specs.Prelude.{◌≡◌, ◌++◌, flat_map, map, OnOk};
 ghost use Rattle.group_reports.specs.Reports as spec;
 
-use lei_outside::NoMemory;
+use lei_values::NoMemory;
 
 /// Appends a line with a first word and others.
 pub fn put_line(out: &mut Vec<u8>, first: &str, others: &[&str]) -> Result<(), NoMemory>

@@ -13,7 +13,7 @@ use crate::places::Places;
 use crate::tops::tops_of;
 use crate::tree::{Tree, add_place, list_of};
 use copy_csv::Row;
-use lei_outside::{List, NoMemory};
+use lei_values::{List, NoMemory};
 use std::alloc::Global;
 use std::collections::BTreeSet;
 use std::marker::Model;

@@ -5,7 +5,7 @@ ghost use Rattle.group_reports.specs.Places.{AreBelow, at, places_in_order};
 
 use crate::links::Links;
 use crate::tree::{add_place, list_of};
-use lei_outside::NoMemory;
+use lei_values::NoMemory;
 use std::alloc::Global;
 use std::collections::BTreeSet;
 

@@ -10,7 +10,7 @@ ghost use Rattle.group_reports.specs.Reports.{name_under, or_hyphen as spec_or_h
 
 use crate::finding::find;
 use copy_csv::{Row, Sheet, Texts};
-use lei_outside::NoMemory;
+use lei_values::NoMemory;
 use std::alloc::Global;
 use std::marker::Model;
 

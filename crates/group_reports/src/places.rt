@@ -12,7 +12,7 @@ ghost use Rattle.group_reports.specs.Places.{AreSortedLeis, IsLeiPlace, at, ends
 use crate::entity::{Entity, add};
 use crate::finding::find;
 use copy_csv::{Row, Sheet, Texts};
-use lei_outside::NoMemory;
+use lei_values::NoMemory;
 use std::alloc::Global;
 use std::collections::BTreeSet;
 use std::marker::Model;

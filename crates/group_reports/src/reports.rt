@@ -9,7 +9,7 @@ use crate::lines::put_line;
 use crate::links::Links;
 use crate::listing::Placed;
 use crate::names::{Names, or_hyphen};
-use lei_outside::NoMemory;
+use lei_values::NoMemory;
 
 /// Appends the line of a root.
 pub fn put_root(out: &mut Vec<u8>, names: &Names, root: &str) -> Result<(), NoMemory>

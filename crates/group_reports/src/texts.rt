@@ -9,7 +9,7 @@ use crate::links::Links;
 use crate::listing::{group_of, members};
 use crate::names::Names;
 use crate::reports::{put_disagreements, put_members, put_members_line, put_root};
-use lei_outside::{Bytes, NoMemory};
+use lei_values::{Bytes, NoMemory};
 use std::alloc::Global;
 
 /// The report on the group of the entity at a place.

@@ -3,7 +3,7 @@ ghost use Rattle.std.specs.Prelude.{◌≡◌, ◌<◌, get_or, length, map, IfO
 ghost use Rattle.std.specs.List.{All};
 ghost use Rattle.group_reports.specs.Places.{FindsTops, LeadsBy, LeadsFar, LeadsWithin, end_by};
 
-use lei_outside::NoMemory;
+use lei_values::NoMemory;
 use std::alloc::Global;
 
 /// For each place the end of the walk up from it. There is none if the place has no parent, or if the walk comes back

@@ -5,7 +5,7 @@ ghost use Rattle.std.specs.List.Sorted.{IsStrictlySortedBy};
 ghost use Rattle.std.specs.Ordering.{nat_cmp};
 ghost use Rattle.group_reports.specs.Places.{AreBelow, LeadsWithin, has_place, has_some, is_child, step_up};
 
-use lei_outside::NoMemory;
+use lei_values::NoMemory;
 use std::alloc::Global;
 use std::collections::BTreeSet;
 use std::marker::Model;

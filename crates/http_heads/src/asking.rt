@@ -9,7 +9,7 @@ ghost use Rattle.http_heads.specs.Routes.{routes};
 
 use crate::routes::{Method, Place, path_of};
 use lei_code::Lei;
-use lei_outside::{NoMemory, Shared};
+use lei_values::{NoMemory, Shared};
 use matchit::{Params, Router};
 use register_words::{
     Allowed, Asked, Call, Refusal, Request, base_of, code_of, form_of, number_of, sheet_of,

@@ -3,7 +3,7 @@ ghost use Rattle.std.specs.Prelude.{◌≡◌, ◌++◌, ◌<◌, flat_map, OnOk
 ghost use Rattle.http_heads.specs.Responses.{allow_header, close_header, phrase_of, response_head, type_of};
 
 use http::StatusCode;
-use lei_outside::NoMemory;
+use lei_values::NoMemory;
 use register_words::Allowed;
 
 /// The kind of text in a response.

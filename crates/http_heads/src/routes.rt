@@ -2,7 +2,7 @@
 ghost use Rattle.std.specs.Prelude.{◌≡◌, IfOk, OnOk};
 ghost use Rattle.http_heads.specs.Routes.{path_of, route_place, routes, with_route};
 
-use lei_outside::NoMemory;
+use lei_values::NoMemory;
 use matchit::Router;
 use std::alloc::Global;
 

@@ -2,8 +2,8 @@
 use Rattle.std.specs.Prelude.{◌≡◌, ℕ, ℤ, List, Contains, Option}
 use Rattle.lei_office.specs.Answering.{CountedOffice, OfficeStep}
 use Rattle.lei_office.specs.Faults.{keeper_faults}
-use Rattle.lei_outside.specs.Count.{Rose}
-use Rattle.lei_outside.specs.Keeping.{KeptTables}
+use Rattle.lei_values.specs.Count.{Rose}
+use Rattle.lei_values.specs.KeptTables.{KeptTables}
 use Rattle.register_history.specs.Kept.{StaysUntold}
 use Rattle.register_history.specs.Legal.{replies_to}
 use Rattle.register_history.specs.State.{OfficeState}

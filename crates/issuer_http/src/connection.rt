@@ -1,7 +1,7 @@
 //! A connection whose requests a caller puts to the office of a hall.
 ghost use Rattle.std.specs.Prelude.{◌≡◌, ℕ, List, Some};
 ghost use Rattle.http_heads.specs.Routes.{routes};
-ghost use Rattle.lei_outside.specs.Count.{Rose};
+ghost use Rattle.lei_values.specs.Count.{Rose};
 ghost use Rattle.lei_hall.specs.Calling.{AskTurn};
 ghost use Rattle.request_loop.specs.Serving.{progress as progress_of};
 ghost use Rattle.issuer_http.specs.Callers.{ServesCaller};
@@ -12,7 +12,8 @@ use crate::ended::Ended;
 use crate::serving::serve_by;
 use http_heads::{Place, router};
 use lei_hall::{Caller, Pass};
-use lei_outside::{Clock, Gate, Keeper, Link};
+use lei_keeper::Keeper;
+use lei_outside::{Clock, Gate, Link};
 use matchit::Router;
 use std::alloc::Global;
 use std::sync::Wait;

@@ -9,7 +9,7 @@ ghost use Rattle.issuer_http.specs.declared.requests.HttpRead.TheVariants.{NoMem
 
 use http_heads::{Head, HeadRead, Place, asked_of, read_whole, router, text_of};
 use lei_office::{Asked, Refusal};
-use lei_outside::NoMemory;
+use lei_values::NoMemory;
 use matchit::Router;
 use std::alloc::Global;
 

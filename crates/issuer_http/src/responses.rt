@@ -1,7 +1,7 @@
 //! Replies as HTTP responses, sent to a link.
 ghost use Rattle.std.specs.Prelude.{◌≡◌, ◌++◌, OnOk, IsErrOf};
 ghost use Rattle.http_heads.specs.Responses.{response_head};
-ghost use Rattle.lei_outside.specs.Count.{Rose};
+ghost use Rattle.lei_values.specs.Count.{Rose};
 ghost use Rattle.register_words.specs.Refusals.{refusal_words};
 ghost use Rattle.lei_outside.specs.Faults.{FailsLast};
 ghost use Rattle.lei_outside.specs.Links.{link_told};
@@ -10,7 +10,8 @@ ghost use Rattle.issuer_http.specs.Responses.{content_kind, methods_in, response
 
 use http_heads::{Content, Response, put_head};
 use lei_office::{Allowed, Kind, Refusal, Reply};
-use lei_outside::{Link, NoMemory, SinkFault};
+use lei_outside::{Link, SinkFault};
+use lei_values::NoMemory;
 use request_loop::{Wire, send_piece};
 use std::alloc::Global;
 

@@ -1,7 +1,7 @@
 //! A connection that is served alone.
 ghost use Rattle.std.specs.Prelude.{◌≡◌, ℕ, List, Some};
 ghost use Rattle.http_heads.specs.Routes.{routes};
-ghost use Rattle.lei_outside.specs.Count.{Rose};
+ghost use Rattle.lei_values.specs.Count.{Rose};
 ghost use Rattle.request_loop.specs.Frames.{Fits};
 ghost use Rattle.request_loop.specs.Serving.{progress as progress_of};
 ghost use Rattle.issuer_http.specs.Frames.{http_rules};
@@ -11,8 +11,9 @@ ghost use Rattle.issuer_http.specs.declared.ended.Ended.{Ended};
 use crate::ended::{Ended, HttpEnd};
 use crate::framing::HttpFraming;
 use http_heads::{Place, router};
+use lei_keeper::Keeper;
 use lei_office::{Asked, Office, Reply};
-use lei_outside::{Clock, Keeper, Link};
+use lei_outside::{Clock, Link};
 use matchit::Router;
 use request_loop::{Answers, Ended as SessionEnd, Intake, serve};
 use std::alloc::Global;

@@ -3,8 +3,8 @@ use Rattle.std.proofs.Common.{◌≡◌, ◌⊎◌, inl, inr, false, Option, Som
 use Rattle.sqlite_trees.specs.Tree.{Trees}
 use Rattle.sqlite.specs.State.{State, HasCleanDisk, Survives}
 use Rattle.sqlite.specs.Effect.{Database}
-use Rattle.lei_outside.specs.Keeping.{KeptTables, with_batch}
-use Rattle.lei_outside.specs.declared.keeper.Batch.{Batch}
+use Rattle.lei_values.specs.KeptTables.{KeptTables, with_batch}
+use Rattle.lei_values.specs.declared.batch.Batch.{Batch}
 use Rattle.store_tables.specs.Calls.{HasNextNumber, IsReadyStore, IsSeen, IsSteady, IsUndone, KeepsBatch, TellsTables}
 use Rattle.store_tables.specs.Crash.{MayBeFound}
 use Rattle.store_tables.specs.Told.{told_in_trees}

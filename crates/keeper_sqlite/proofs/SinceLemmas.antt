@@ -2,8 +2,9 @@
 use Rattle.std.proofs.Common.{◌≡◌, ◌⊎◌, inl, inr, Bool, true, false, not, cond, Option, Some, None, is_some, IfSome, Ok, Err, Result, OnOk, IsTrue, refl, sym, ap, subst, ◌∙◌, arith, true≢false}
 use Rattle.sqlite_trees.proofs.Doubt.{clean_of, no_doubt}
 use Rattle.sqlite.specs.State.{State, HasCleanDisk}
-use Rattle.lei_outside.specs.Keeping.{Becomes, CommitLeaves, Commits, IsNextOf, KeptTables, LeavesEither, LeavesNoMore, TablesStay, with_batch}
-use Rattle.lei_outside.specs.declared.keeper.Batch.{Batch}
+use Rattle.lei_values.specs.KeptTables.{IsNextOf, KeptTables, with_batch}
+use Rattle.lei_keeper.specs.Keeping.{Becomes, CommitLeaves, Commits, LeavesEither, LeavesNoMore, TablesStay}
+use Rattle.lei_values.specs.declared.batch.Batch.{Batch}
 use Rattle.store_tables.specs.Calls.{HasNextNumber, IsSeen, IsSteady}
 use Rattle.store_tables.specs.Crash.{leaves_in}
 use Rattle.store_tables.specs.Told.{is_settled, told_in, told_in_trees}

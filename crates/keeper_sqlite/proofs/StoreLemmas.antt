@@ -10,9 +10,9 @@ use Rattle.sqlite_trees.specs.declared.store.Store.{Ghosts}
 use Rattle.sqlite_value.specs.declared.value.Value.{Value}
 use Rattle.sqlite_value.specs.declared.value.Value.TheVariants.{Int, Blob}
 use Rattle.sqlite_value.specs.Order.{Row, bytes, column}
-use Rattle.lei_outside.specs.Keeping.{KeptTables, entry_number, last_number}
-use Rattle.lei_outside.specs.declared.entry.KeptEntry.{KeptEntry}
-use Rattle.lei_outside.specs.declared.keeper.KeptCell.{KeptCell}
+use Rattle.lei_values.specs.KeptTables.{KeptTables, entry_number, last_number}
+use Rattle.lei_values.specs.declared.entry.KeptEntry.{KeptEntry}
+use Rattle.lei_values.specs.declared.cell.KeptCell.{KeptCell}
 use Rattle.store_statements.specs.Rows.{cell_row, entry_row}
 use Rattle.store_statements.specs.Schemas.{whole_schema}
 use Rattle.store_tables.specs.Calls.{IsMade, IsReadyStore, IsSteady, IsUndone, IsWholeStore, Makes, Moves, ReadsForm, last_rows, number_row}

@@ -5,9 +5,9 @@ use Rattle.std.specs.List.{AllByRecursion}
 use Rattle.sqlite_trees.proofs.ListLemmas.{all-get_or}
 use Rattle.sqlite.specs.State.{State, Survives}
 use Rattle.sqlite.proofs.StateLemmas.{survives_then}
-use Rattle.lei_outside.specs.Keeping.{IsBatch, IsCellOf, KeptTables, with_batch}
-use Rattle.lei_outside.specs.declared.keeper.Batch.{Batch}
-use Rattle.lei_outside.specs.declared.keeper.KeptCell.{KeptCell}
+use Rattle.lei_values.specs.KeptTables.{IsBatch, IsCellOf, KeptTables, with_batch}
+use Rattle.lei_values.specs.declared.batch.Batch.{Batch}
+use Rattle.lei_values.specs.declared.cell.KeptCell.{KeptCell}
 use Rattle.store_tables.specs.Calls.{ChangesTables, HasNextNumber, IsInside, tables_with_cell, tables_with_entry, with_cells}
 use Rattle.store_tables.proofs.CallLemmas.{cells_more, turns_then}
 

@@ -7,7 +7,7 @@ use Rattle.std.specs.Coded.{Coded, code_by, coded×, coded_option, coded_ℕ}
 use Rattle.sqlite_trees.specs.declared.store.Store.{Ghosts}
 use Rattle.sqlite.specs.Held.{Held, held_code, state}
 use Rattle.sqlite.specs.State.{State, HasCleanDisk}
-use Rattle.lei_outside.specs.Keeping.{KeptTables}
+use Rattle.lei_values.specs.KeptTables.{KeptTables}
 use Rattle.store_tables.specs.Crash.{leaves_in}
 use Rattle.store_tables.specs.Told.{told_in, told_in_trees}
 

@@ -2,8 +2,8 @@
 use Rattle.std.specs.Prelude.{◌≡◌, ◌≤◌, ◌⊎◌, [], true, false, Option, Some, Result, OnOk, OnErr, IsTrue}
 use Rattle.sqlite_trees.specs.View.{doubt}
 use Rattle.sqlite.specs.State.{State, HasCleanDisk}
-use Rattle.lei_outside.specs.Keeping.{KeptTables, with_batch}
-use Rattle.lei_outside.specs.declared.keeper.Batch.{Batch}
+use Rattle.lei_values.specs.KeptTables.{KeptTables, with_batch}
+use Rattle.lei_values.specs.declared.batch.Batch.{Batch}
 use Rattle.sqlite_trees.specs.Tree.{Trees}
 use Rattle.store_tables.specs.Calls.{HasNextNumber, IsMade, IsSeen, IsWholeStore, TellsTables}
 use Rattle.store_tables.specs.Crash.{MayBeFound}

@@ -1,8 +1,8 @@
 // How failures of the database are handled.
 ghost use Rattle.std.specs.Prelude.{◌≡◌, ◌↔◌, ◌≤◌, IsErrOf};
-ghost use Rattle.lei_outside.specs.Count.{Rose};
+ghost use Rattle.lei_values.specs.Count.{Rose};
 
-use lei_outside::KeepFault;
+use lei_keeper::KeepFault;
 use sqlite::{Error, ErrorCode};
 use std::fmt;
 

@@ -1,11 +1,13 @@
 //! A keeper over an SQLite database.
 ghost use Rattle.std.specs.Prelude.{◌≡◌, Option, None, Some, IfSome, IfOk, OnOk, option_map};
-ghost use Rattle.lei_outside.specs.Keeping.{AreKept, CommitLeaves, Commits, IsBatch, IsNextOf, LeavesNoMore, TablesStay, cells_between, entries_between, last_number};
+ghost use Rattle.lei_values.specs.KeptTables.{AreKept, IsBatch, IsNextOf, cells_between, entries_between, last_number};
+ghost use Rattle.lei_keeper.specs.Keeping.{CommitLeaves, Commits, LeavesNoMore, TablesStay};
 ghost use Rattle.keeper_sqlite.specs.Keepers.{leaves_from, tables_in};
 
 use crate::faults::{Cause, count_fault};
 use crate::store::Store;
-use lei_outside::{Batch, KeepFault, Keeper, KeptCell, KeptEntry, List};
+use lei_keeper::{KeepFault, Keeper};
+use lei_values::{Batch, KeptCell, KeptEntry, List};
 use sqlite::{Alter, Connection, File, FileStore};
 use std::alloc::Global;
 use std::marker::Model;

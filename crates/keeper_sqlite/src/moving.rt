@@ -10,7 +10,7 @@ ghost use Rattle.keeper_sqlite.specs.Transactions.{HasMoved, IsMoved};
 
 use crate::rows::{first_cells_of, last_row_id};
 use crate::writing::put_cells;
-use lei_outside::KeepFault;
+use lei_keeper::KeepFault;
 use sqlite::types::ValueRef;
 use sqlite::{Alter, Connection, Error, Row, Transaction};
 use std::alloc::Global;

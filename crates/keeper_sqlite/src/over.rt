@@ -2,7 +2,7 @@
 ghost use Rattle.std.specs.Prelude.{◌≡◌, [], ◌∷◌, false, Some, IsTrue, IfOk, OnOk};
 ghost use Rattle.sqlite.specs.Held.{state};
 ghost use Rattle.sqlite.specs.State.{HasCleanDisk};
-ghost use Rattle.lei_outside.specs.Keeping.{IsBatch, KeptTables, cells_between, entries_between, last_number};
+ghost use Rattle.lei_values.specs.KeptTables.{IsBatch, KeptTables, cells_between, entries_between, last_number};
 ghost use Rattle.store_tables.specs.Calls.{IsFirst, IsNewSchema, IsReadyStore, IsSteady, IsWholeStore, last_rows};
 ghost use Rattle.store_tables.specs.Stored.{second_row};
 ghost use Rattle.store_tables.specs.Told.{told_in_trees};
@@ -14,7 +14,8 @@ use crate::moving::{Stop, move_cells};
 use crate::reading::{read_cells, read_entries, read_form, read_last};
 use crate::rows::{cells_of, entries_of, is_second, number_of};
 use crate::writing::write;
-use lei_outside::{Batch, KeepFault, KeptCell, KeptEntry, List};
+use lei_keeper::KeepFault;
+use lei_values::{Batch, KeptCell, KeptEntry, List};
 use sqlite::{Alter, Connection, Row};
 use std::alloc::Global;
 use store_statements::{Stage, stage_of};

@@ -5,7 +5,7 @@ ghost use Rattle.sqlite_value.specs.Value.{owned};
 ghost use Rattle.sqlite.specs.Values.{bound_value};
 ghost use Rattle.sqlite.specs.Held.{state};
 ghost use Rattle.sqlite.specs.State.{HasCleanDisk};
-ghost use Rattle.lei_outside.specs.Keeping.{KeptTables, cells_between, entries_between};
+ghost use Rattle.lei_values.specs.KeptTables.{KeptTables, cells_between, entries_between};
 ghost use Rattle.store_statements.specs.Rows.{cell_row, entry_row};
 ghost use Rattle.store_tables.specs.Calls.{IsReadyStore, IsSteady, IsWholeStore, ReadsForm, last_rows};
 ghost use Rattle.store_tables.specs.Told.{told_in_trees};

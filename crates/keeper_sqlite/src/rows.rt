@@ -11,7 +11,8 @@ ghost use Rattle.store_tables.specs.Calls.{last_id};
 ghost use Rattle.store_tables.specs.Stored.{form_1, second_row};
 
 use crate::faults::fault_of;
-use lei_outside::{Bytes, KeepFault, KeptCell, KeptEntry, List, NoMemory, Shared};
+use lei_keeper::KeepFault;
+use lei_values::{Bytes, KeptCell, KeptEntry, List, NoMemory, Shared};
 use sqlite::Row;
 use sqlite::types::ValueRef;
 use std::alloc::Global;

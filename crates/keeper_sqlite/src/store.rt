@@ -1,11 +1,13 @@
 // A connection that a keeper adopted, and what each call of the keeper does to it.
 ghost use Rattle.std.specs.Prelude.{◌≡◌, IfSome, IfOk, OnOk};
-ghost use Rattle.lei_outside.specs.Keeping.{AreKept, CommitLeaves, Commits, IsBatch, IsNextOf, LeavesNoMore, TablesStay, cells_between, entries_between, last_number};
+ghost use Rattle.lei_values.specs.KeptTables.{AreKept, IsBatch, IsNextOf, cells_between, entries_between, last_number};
+ghost use Rattle.lei_keeper.specs.Keeping.{CommitLeaves, Commits, LeavesNoMore, TablesStay};
 ghost use Rattle.keeper_sqlite.specs.Keepers.{leaves_of, tables_of};
 
 use crate::faults::Cause;
 use crate::over;
-use lei_outside::{Batch, KeepFault, KeptCell, KeptEntry, List};
+use lei_keeper::KeepFault;
+use lei_values::{Batch, KeptCell, KeptEntry, List};
 use sqlite::{Alter, Connection};
 use std::alloc::Global;
 use std::marker::Model;

@@ -3,12 +3,12 @@ ghost use Rattle.std.specs.Prelude.{◌≡◌, ◌≤◌, false, IsTrue, OnOk, O
 ghost use Rattle.std.specs.List.{AllByRecursion};
 ghost use Rattle.sqlite.specs.Held.{state};
 ghost use Rattle.sqlite.specs.State.{HasCleanDisk, KeepsCommit, Survives};
-ghost use Rattle.lei_outside.specs.Keeping.{IsBatch, with_batch};
+ghost use Rattle.lei_values.specs.KeptTables.{IsBatch, with_batch};
 ghost use Rattle.store_tables.specs.Calls.{ChangesTables, HasNextNumber, IsUndone, KeepsBatch, tables_with_cell, tables_with_entry, with_cells};
 ghost use Rattle.keeper_sqlite.specs.Transactions.{HasKept};
 
 use crate::rows::{cell_values, entry_values};
-use lei_outside::{Batch, KeptCell, KeptEntry};
+use lei_values::{Batch, KeptCell, KeptEntry};
 use sqlite::{Alter, Connection, Error, Transaction};
 
 const INSERT: &'static str =

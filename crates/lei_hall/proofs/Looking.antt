@@ -3,9 +3,9 @@ use Rattle.std.proofs.Common.{◌≡◌, ◌==◌, ◌+◌, ◌∷◌, ◌++◌,
 use Rattle.std.proofs.lemmas.Bool.{eq-eqb}
 use Rattle.std.proofs.lemmas.List.{append-nil}
 use Rattle.fetched_cells.specs.declared.fetched.Fetched.{Fetched}
-use Rattle.lei_outside.specs.Keeping.{KeptTables}
-use Rattle.lei_outside.specs.declared.entry.KeptEntry.{KeptEntry}
-use Rattle.lei_outside.specs.declared.faults.NoMemory.{NoMemory}
+use Rattle.lei_values.specs.KeptTables.{KeptTables}
+use Rattle.lei_values.specs.declared.entry.KeptEntry.{KeptEntry}
+use Rattle.lei_values.specs.declared.no_memory.NoMemory.{NoMemory}
 use Rattle.lei_records.specs.declared.view.CellKey.{CellKey}
 use Rattle.register_history.specs.Legal.{Legal}
 use Rattle.register_history.specs.State.{OfficeState, office_of}

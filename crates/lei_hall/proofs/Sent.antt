@@ -4,7 +4,7 @@ use denote.RattleType.{RattleType}
 use denote.Param.Send.{IsSend, IsSync, sendable}
 use Rattle.std.proofs.Crossing.{crosses}
 use Rattle.std.proofs.MapsCrossing as maps
-use Rattle.lei_outside.specs.declared.keeper.Keeper as keeper
+use Rattle.lei_keeper.specs.declared.keeper.Keeper as keeper
 use Rattle.lei_records.specs.contracts.record.Record as Record
 use Rattle.lei_records.specs.contracts.relation.Relation as Relation
 use Rattle.lei_records.specs.contracts.exception.ExceptionItem as Exception

@@ -1,7 +1,7 @@
 -- A turn at the turnstile as a turn of the hall.
 use Rattle.std.proofs.Common.{◌≡◌, ℕ, ℤ, Option, Some, refl, sym, ap, ◌∙◌, subst}
-use Rattle.lei_outside.specs.Keeping.{KeptTables}
-use Rattle.lei_outside.specs.declared.entry.KeptEntry.{KeptEntry}
+use Rattle.lei_values.specs.KeptTables.{KeptTables}
+use Rattle.lei_values.specs.declared.entry.KeptEntry.{KeptEntry}
 use Rattle.register_words.specs.declared.limits.Limits.{Limits}
 use Rattle.register_words.specs.declared.reply.Reply.{Reply}
 use Rattle.register_words.specs.declared.request.Request.{Request}

@@ -3,7 +3,7 @@ use Rattle.std.specs.Prelude.{◌≡◌, List, Result, IfOk, take}
 use Rattle.fetched_cells.specs.Fetching.{HasJust, fetched_keys}
 use Rattle.fetched_cells.specs.Maps.{fetched_view}
 use Rattle.fetched_cells.specs.declared.fetched.Fetched.{Fetched}
-use Rattle.lei_outside.specs.declared.faults.NoMemory.{NoMemory}
+use Rattle.lei_values.specs.declared.no_memory.NoMemory.{NoMemory}
 use Rattle.lei_records.specs.Tables.{Table, cells_of}
 use Rattle.lei_records.specs.declared.view.CellKey.{CellKey}
 use Rattle.register_history.specs.Legal.{Legal}

@@ -1,8 +1,8 @@
 -- Passes and a hall as contracts see them.
 use Rattle.std.specs.Prelude.{ℕ, ℤ, ◌+◌, ◌≤◌, ◌<◌, List, [], ◌∷◌, length, get_or, Option, None, Some}
 use Rattle.atomic_table.specs.Seated.{TableId}
-use Rattle.lei_outside.specs.Keeping.{KeptTables}
-use Rattle.lei_outside.specs.declared.entry.KeptEntry.{KeptEntry}
+use Rattle.lei_values.specs.KeptTables.{KeptTables}
+use Rattle.lei_values.specs.declared.entry.KeptEntry.{KeptEntry}
 use Rattle.register_words.specs.declared.limits.Limits.{Limits}
 use Rattle.register_words.specs.declared.reply.Reply.{Reply}
 use Rattle.register_words.specs.declared.request.Request.{Request}

@@ -9,10 +9,11 @@ ghost use Rattle.lei_hall.specs.Turns.{AnswersRequest};
 
 use crate::slot::Slot;
 use fetched_cells::Fetched;
+use lei_keeper::Keeper;
 use lei_office::{Call, Reply, Request};
-use lei_outside::{Keeper, NoMemory};
 use lei_records::CellKey;
 use lei_shapes::Moment;
+use lei_values::NoMemory;
 use register_judge::Plan;
 use std::thread::Threads;
 use turnstile::Said;

@@ -4,8 +4,9 @@ ghost use Rattle.register_words.specs.Requests.{HasNumberInRange};
 ghost use Rattle.lei_hall.specs.Turns.{Turn};
 
 use crate::hall::{Hall, Pass};
+use lei_keeper::Keeper;
 use lei_office::{Asked, Reply, Request, moment_of};
-use lei_outside::{Clock, Gate, Keeper};
+use lei_outside::{Clock, Gate};
 use lei_shapes::Moment;
 use request_loop::Answers;
 use std::marker::Model;

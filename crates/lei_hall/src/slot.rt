@@ -4,8 +4,9 @@ ghost use Rattle.register_history.specs.Kept.{StaysUntold};
 ghost use Rattle.lei_hall.specs.Passes.{ReportsSo, numbers_of};
 
 use crate::answers::Told;
+use lei_keeper::Keeper;
 use lei_office::Office;
-use lei_outside::{Keeper, KeptEntry};
+use lei_values::KeptEntry;
 use std::marker::Model;
 use std::snapshot::Snapshot;
 use turnstile::Tally;

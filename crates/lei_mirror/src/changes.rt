@@ -5,7 +5,7 @@ ghost use Rattle.lei_mirror.specs.Changes.{is_put};
 
 use crate::shared::SharedRow;
 use copy_csv::Change;
-use lei_outside::{List, NoMemory};
+use lei_values::{List, NoMemory};
 use std::alloc::Global;
 use std::marker::Model;
 

@@ -3,7 +3,7 @@ ghost use Rattle.std.specs.Prelude.{◌≡◌};
 ghost use Rattle.lei_mirror.specs.declared.faults.MirrorFault.TheVariants as taking;
 ghost use Rattle.lei_mirror.specs.declared.faults.ShowFault.TheVariants as showing;
 
-use lei_outside::NoMemory;
+use lei_values::NoMemory;
 
 /// Why a packet isn't taken.
 #[derive(Clone, Copy, Debug, PartialEq, Eq)]

@@ -11,7 +11,7 @@ use crate::kept_packet::KeptPacket;
 use crate::packet::Packet;
 use crate::settling::settle;
 use crate::tables::Tables;
-use lei_outside::NoMemory;
+use lei_values::NoMemory;
 use std::alloc::Global;
 
 // The most packets that are kept.

@@ -7,7 +7,7 @@ ghost use Rattle.lei_mirror.specs.Packets as spec;
 use crate::packet::{Packet, PacketBody, PacketKind, is_kind, is_sheet};
 use crate::reading::read_body;
 use copy_csv::{Head, Sheet};
-use lei_outside::{Bytes, NoMemory};
+use lei_values::{Bytes, NoMemory};
 use std::alloc::Global;
 use std::marker::Model;
 use std::snapshot::Snapshot;

@@ -9,7 +9,7 @@ use crate::changes::SharedChange;
 use crate::shared::{SharedRow, SharedRows};
 use copy_csv::{Row, Sheet};
 use copy_forms::{HeldChange, place_row};
-use lei_outside::NoMemory;
+use lei_values::NoMemory;
 use std::alloc::Global;
 
 impl HeldChange for SharedChange {

@@ -18,7 +18,7 @@ use crate::reading::read_packet;
 use crate::showing::rows_text;
 use crate::tables::Tables;
 use copy_csv::Sheet;
-use lei_outside::{Bytes, NoMemory};
+use lei_values::{Bytes, NoMemory};
 use std::alloc::Global;
 use std::marker::Model;
 

@@ -5,7 +5,7 @@ ghost use Rattle.lei_mirror.specs.Packets as spec;
 use crate::changes::SharedChange;
 use crate::shared::SharedRows;
 use copy_csv::{Head, Sheet};
-use lei_outside::List;
+use lei_values::List;
 
 /// Whether a packet is a copy or a delta.
 #[derive(Clone, Copy, Debug, PartialEq, Eq)]

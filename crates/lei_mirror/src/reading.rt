@@ -11,7 +11,7 @@ use crate::faults::MirrorFault;
 use crate::packet::{Packet, PacketBody, PacketKind};
 use crate::shared::SharedRows;
 use copy_forms::{CopyRead, DeltaRead, Form, FormFault, Sheet, read_copy, read_delta};
-use lei_outside::NoMemory;
+use lei_values::NoMemory;
 use std::alloc::Global;
 
 /// Reads the packet that these bytes are, and builds its rows. `NotRead` is returned if they aren't a packet.

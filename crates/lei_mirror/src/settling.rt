@@ -12,7 +12,7 @@ use crate::packet::PacketBody;
 use crate::ready::{greatest_ready, packet_for};
 use crate::tables::{SheetCopy, Tables};
 use copy_csv::{Head, Sheet};
-use lei_outside::NoMemory;
+use lei_values::NoMemory;
 use std::alloc::Global;
 
 /// The tables to which these packets bring a mirror with these tables. They are built while the old ones remain, and

@@ -2,7 +2,7 @@
 ghost use Rattle.std.specs.Prelude.{◌≡◌, IfOk};
 
 use copy_csv::Row;
-use lei_outside::{List, NoMemory};
+use lei_values::{List, NoMemory};
 use std::alloc::Global;
 use std::marker::Model;
 use std::sync::Arc;

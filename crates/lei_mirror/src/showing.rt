@@ -5,7 +5,7 @@ ghost use Rattle.copy_forms.specs.Json.{json_copy};
 use crate::shared::SharedRow;
 use copy_csv::{Head, Row};
 use copy_forms::json_rows_text;
-use lei_outside::{Bytes, NoMemory};
+use lei_values::{Bytes, NoMemory};
 use std::alloc::Global;
 
 /// The text in JSON of the copy with this head and these rows.

@@ -4,7 +4,7 @@ ghost use Rattle.lei_mirror.specs.Mirrors.{empty_mirror, sheet_copy, empty_copy}
 
 use crate::shared::SharedRows;
 use copy_csv::{Head, Sheet};
-use lei_outside::NoMemory;
+use lei_values::NoMemory;
 use std::alloc::Global;
 
 /// What is shown of a sheet.

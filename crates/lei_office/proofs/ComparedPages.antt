@@ -2,8 +2,9 @@
 use Rattle.std.proofs.Common.{◌≡◌, ℕ, ◌≤◌, ◌+◌, ◌*◌, Bool, true, false, nat_lt, List, Option, Some, None, refl, sym, subst, ◌∙◌, arith}
 use Rattle.std.proofs.lemmas.Bool.{ltb-false, ltb-true}
 use Rattle.std.specs.Prelude.{IfSome}
-use Rattle.lei_outside.specs.Keeping.{AreKept, KeptTables, LeavesNoMore, TablesStay, cells_between}
-use Rattle.lei_outside.specs.declared.keeper.KeptCell.{KeptCell}
+use Rattle.lei_values.specs.KeptTables.{AreKept, KeptTables, cells_between}
+use Rattle.lei_keeper.specs.Keeping.{LeavesNoMore, TablesStay}
+use Rattle.lei_values.specs.declared.cell.KeptCell.{KeptCell}
 use Rattle.register_table.specs.Held.{Held}
 use Rattle.register_history.specs.declared.damage.Damage.{Damage}
 use Rattle.register_history.specs.Damage.{IsCellDamage, kept_page, made_page, page_bounds}

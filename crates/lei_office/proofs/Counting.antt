@@ -2,7 +2,7 @@
 use Rattle.std.proofs.Common.{◌≡◌, ◌≢◌, ℕ, ◌+◌, ◌≤◌, zero, suc, Bool, true, false, cond, List, [], ◌∷◌, ◌++◌, length, Contains, refl, sym, ap, subst, arith}
 use Rattle.std.specs.Prelude.{nat_eq}
 use Rattle.std.proofs.lemmas.Bool.{eqb-true}
-use Rattle.lei_outside.specs.Count.{Rose}
+use Rattle.lei_values.specs.Count.{Rose}
 use Rattle.register_words.specs.Refusals.{refusal_status_code}
 use Rattle.register_words.specs.declared.reply.Refusal.{Refusal}
 use Rattle.register_words.specs.declared.reply.Refusal.TheVariants as refusals

@@ -1,6 +1,6 @@
 -- The first place at which two lists of cells differ.
 use Rattle.std.proofs.Common.{◌≡◌, ℕ, zero, suc, ◌≤◌, List, [], ◌∷◌, ◌++◌, length, take, Some, None, refl, sym, ap, ◌∙◌, arith, slice_get, ◌+◌, add-one}
-use Rattle.lei_outside.specs.declared.keeper.KeptCell.{KeptCell}
+use Rattle.lei_values.specs.declared.cell.KeptCell.{KeptCell}
 use Rattle.register_history.specs.declared.damage.Damage.{Damage}
 use Rattle.register_history.specs.Damage.{DifferFirst, not_kept, not_made}
 

@@ -3,8 +3,8 @@ use Rattle.std.proofs.Common.{◌≡◌, ℕ, ◌<◌, ◌≤◌, ◌+◌, ◌-�
 use Rattle.std.specs.Prelude.{◌≢◌}
 use Rattle.std.proofs.lemmas.Bool.{leb-false, leb-true, ltb-true}
 use Rattle.std.proofs.lemmas.Bool.Decides.{nat_tests}
-use Rattle.lei_outside.specs.Keeping.{AreKept, KeptTables, RiseFrom, entries_between, entry_number, last_number}
-use Rattle.lei_outside.specs.declared.entry.KeptEntry.{KeptEntry}
+use Rattle.lei_values.specs.KeptTables.{AreKept, KeptTables, RiseFrom, entries_between, entry_number, last_number}
+use Rattle.lei_values.specs.declared.entry.KeptEntry.{KeptEntry}
 use Rattle.upload_ledger.specs.History.{History, last_entry}
 use Rattle.register_history.specs.declared.damage.Damage.{Damage}
 use Rattle.register_words.specs.declared.limits.Limits.{Limits}

@@ -1,6 +1,6 @@
 -- What is decided instead of a stored entry.
 use Rattle.std.proofs.Common.{◌≡◌, Some, None, refl}
-use Rattle.lei_outside.specs.declared.entry.KeptEntry.{KeptEntry}
+use Rattle.lei_values.specs.declared.entry.KeptEntry.{KeptEntry}
 use Rattle.register_words.specs.declared.request.Request.{Request}
 use Rattle.register_history.specs.Damage.{replayed_text, stored_request}
 use Rattle.register_history.specs.Legal.{IsNext}

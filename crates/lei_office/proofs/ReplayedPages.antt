@@ -2,7 +2,7 @@
 use Rattle.std.proofs.Common.{◌≡◌, ℕ, ◌≤◌, ◌&&◌, nat_le, nat_lt, true, false, cond, filter, [], ◌∷◌, ◌++◌, arith, Option, Some, None, refl, sym, ap, subst, ◌∙◌}
 use Rattle.std.specs.Prelude.{IfSome}
 use Rattle.std.proofs.lemmas.Bool.Decides.{nat_tests}
-use Rattle.lei_outside.specs.Keeping.{AreKept, KeptTables, RiseFrom, entries_between, last_number}
+use Rattle.lei_values.specs.KeptTables.{AreKept, KeptTables, RiseFrom, entries_between, last_number}
 use Rattle.upload_ledger.specs.History.{History}
 use Rattle.register_history.specs.declared.damage.Damage.{Damage}
 use Rattle.register_words.specs.declared.limits.Limits.{Limits}

@@ -1,6 +1,6 @@
 -- An office as the answerer of a session.
 use Rattle.std.specs.Prelude.{◌≢◌, ℕ, ℤ, List, [], ◌∷◌, Option}
-use Rattle.lei_outside.specs.Keeping.{KeptTables}
+use Rattle.lei_values.specs.KeptTables.{KeptTables}
 use Rattle.register_history.specs.Kept.{StaysUntold}
 use Rattle.register_history.specs.Legal.{AskStep}
 use Rattle.register_history.specs.State.{OfficeState}

@@ -1,7 +1,7 @@
 -- An office with its keeper, as contracts see it, and the results of opening one.
 use Rattle.std.specs.Prelude.{◌≡◌, ℕ, Option, IfSome, ⊤}
-use Rattle.lei_outside.specs.Count.{Rose}
-use Rattle.lei_outside.specs.Keeping.{KeptTables}
+use Rattle.lei_values.specs.Count.{Rose}
+use Rattle.lei_values.specs.KeptTables.{KeptTables}
 use Rattle.register_words.specs.declared.limits.Limits.{Limits}
 use Rattle.lei_office.specs.declared.opening.OpenFault.{OpenFault}
 use Rattle.lei_office.specs.declared.opening.OpenFault.TheVariants.{KeeperFault, NoMemory, StoreDamaged}

@@ -3,7 +3,8 @@ ghost use Rattle.std.specs.Prelude.{[], ◌∷◌};
 ghost use Rattle.lei_outside.specs.Clock.{Gave, IsClockMoment};
 
 use crate::Office;
-use lei_outside::{Clock, Keeper};
+use lei_keeper::Keeper;
+use lei_outside::Clock;
 use lei_shapes::Moment;
 use register_words::{Asked, Reply};
 use request_loop::Answers;

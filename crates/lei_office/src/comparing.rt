@@ -1,13 +1,15 @@
 //! Compares the cells that a keeper has with those of a register, in pages by the entries that touched them last.
 ghost use Rattle.std.specs.Prelude.{◌≡◌, ◌≤◌, IfOk, IfSome, IsErrOf, IsTrue, Some, option_map, slice_get};
-ghost use Rattle.lei_outside.specs.Count.{Rose};
-ghost use Rattle.lei_outside.specs.Keeping.{AreKept, LeavesNoMore, TablesStay};
+ghost use Rattle.lei_values.specs.Count.{Rose};
+ghost use Rattle.lei_values.specs.KeptTables.{AreKept};
+ghost use Rattle.lei_keeper.specs.Keeping.{LeavesNoMore, TablesStay};
 ghost use Rattle.register_history.specs.Damage.{cell_or_none, kept_page, made_page, not_kept, not_made, page_bounds};
 ghost use Rattle.lei_office.specs.Opening.{AllCompare, Compares};
 ghost use Rattle.register_history.specs.Register.{held_after};
 
 use crate::damage::cell_line;
-use lei_outside::{Bytes, KeepFault, Keeper, KeptCell, NoMemory};
+use lei_keeper::{KeepFault, Keeper};
+use lei_values::{Bytes, KeptCell, NoMemory};
 use register_history::Damage;
 use register_state::Register;
 use std::alloc::Global;

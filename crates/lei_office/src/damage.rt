@@ -3,8 +3,8 @@ ghost use Rattle.std.specs.Prelude.{◌≡◌, ◌++◌, ◌∷◌, IfOk, OnOk, 
 ghost use Rattle.register_history.specs.Damage.{cell_line, entry_line, kind_word, moment_word, or_dash, row_word};
 ghost use Rattle.register_history.specs.Kept.{with_spaces};
 
-use lei_outside::{Bytes, KeptCell, KeptEntry, NoMemory, Shared};
 use lei_shapes::Moment;
+use lei_values::{Bytes, KeptCell, KeptEntry, NoMemory, Shared};
 use std::alloc::Global;
 use upload_ledger::{ACCREDIT, PUBLISH, UPLOAD};
 

@@ -1,8 +1,8 @@
 //! An office: a register that serves one caller at a time, with its keeper.
 ghost use Rattle.std.specs.Prelude.{◌≡◌, ◌≤◌, Some, take, IfErr, IfOk, IfSome, option_map};
 ghost use Rattle.lei_shapes.specs.Moment.{IsMoment};
-ghost use Rattle.lei_outside.specs.Count.{Rose};
-ghost use Rattle.lei_outside.specs.Keeping.{LeavesNoMore, TablesStay};
+ghost use Rattle.lei_values.specs.Count.{Rose};
+ghost use Rattle.lei_keeper.specs.Keeping.{LeavesNoMore, TablesStay};
 ghost use Rattle.lei_records.specs.Tables.{IsSoundTable, cells_of};
 ghost use Rattle.fetched_cells.specs.Fetching.{HasJust, fetched_keys};
 ghost use Rattle.fetched_cells.specs.Maps.{fetched_view};
@@ -26,9 +26,10 @@ ghost use Rattle.lei_office.specs.Offices.{FaultRose, IsRefused, keeper_back};
 
 use crate::opening::{Found, OpenFault, read_store};
 use fetched_cells::Fetched;
-use lei_outside::{KeepFault, Keeper, KeptEntry, NoMemory};
+use lei_keeper::{KeepFault, Keeper};
 use lei_records::CellKey;
 use lei_shapes::Moment;
+use lei_values::{KeptEntry, NoMemory};
 use register_judge::Plan;
 use register_state::Register;
 use register_words::{Call, Limits, Refusal, Reply, Request};

@@ -1,13 +1,14 @@
 //! Opens a store: its entries are replayed, and its cells are compared with those that the entries leave.
 ghost use Rattle.std.specs.Prelude.{◌≡◌, ◌≤◌, ◌<◌, ◌+◌, [], IfOk, IfSome, IsErrOf, min};
-ghost use Rattle.lei_outside.specs.Count.{Rose};
-ghost use Rattle.lei_outside.specs.Keeping.{AreKept, LeavesNoMore, TablesStay, last_number};
+ghost use Rattle.lei_values.specs.Count.{Rose};
+ghost use Rattle.lei_values.specs.KeptTables.{AreKept, last_number};
+ghost use Rattle.lei_keeper.specs.Keeping.{LeavesNoMore, TablesStay};
 ghost use Rattle.register_words.specs.Limits.{AreLimits};
 ghost use Rattle.lei_office.specs.Opening.{AllReplay, IsFoundInStore, IsStoreRead};
 
 use crate::comparing::{PAGE, compare_cells};
 use crate::replaying::replay_page;
-use lei_outside::{KeepFault, Keeper};
+use lei_keeper::{KeepFault, Keeper};
 use register_history::Damage;
 use register_state::Register;
 use register_words::Limits;

@@ -9,8 +9,8 @@ ghost use Rattle.lei_office.specs.Opening.{PageReplays, Replays, decision_text};
 
 use crate::damage::entry_line;
 use lei_code::Lei;
-use lei_outside::{Bytes, KeptEntry, NoMemory};
 use lei_shapes::Moment;
+use lei_values::{Bytes, KeptEntry, NoMemory};
 use register_history::Damage;
 use register_state::{Decision, RULES, Register};
 use register_words::{Call, Reply, Request, is_upload_number};

@@ -2,7 +2,7 @@
 use Rattle.std.proofs.Common.{◌≡◌, ◌≤◌, ℕ, List, [], refl, sym, ap, ◌∙◌}
 use Rattle.std.specs.Prelude.{Option, None, Some}
 use Rattle.std.proofs.lemmas.List.{append-nil}
-use Rattle.lei_outside.specs.Count.{Rose}
+use Rattle.lei_values.specs.Count.{Rose}
 use Rattle.lei_outside.specs.Faults.{FailsLast}
 use Rattle.lei_outside.specs.Told.{Grows, Loses}
 

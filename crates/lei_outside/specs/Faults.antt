@@ -1,10 +1,8 @@
 -- What is told about a call of a device that fails.
 use Rattle.std.specs.Prelude.{◌≡◌, ◌≤◌, ℕ, List, codes}
-use Rattle.lei_outside.specs.Count.{Rose}
+use Rattle.lei_values.specs.Count.{Rose}
 use Rattle.lei_outside.specs.declared.faults.SinkFault.{SinkFault}
 use Rattle.lei_outside.specs.declared.faults.SinkFault.TheVariants.{Failed, NoMemory}
-use Rattle.lei_outside.specs.declared.faults.KeepFault.{KeepFault}
-use Rattle.lei_outside.specs.declared.faults.KeepFault.TheVariants as keep_faults
 
 -- A call of a device failed, and nothing was read or written after it. At some time no call had failed, and the device
 -- told what it tells now. After that time its count of faults rose.
@@ -19,8 +17,3 @@ pub record FailsLast {D T : Type 0} (told : D → T) (faults : D → ℕ) (befor
 abbrev pub sink_fault_text : SinkFault → List ℕ
 sink_fault_text Failed = codes "the device failed"
 sink_fault_text NoMemory = codes "out of memory"
-
--- why a keeper kept or returned nothing, in words
-abbrev pub keep_fault_text : KeepFault → List ℕ
-keep_fault_text keep_faults.Failed = codes "the keeper failed"
-keep_fault_text keep_faults.NoMemory = codes "out of memory"

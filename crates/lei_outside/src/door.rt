@@ -1,6 +1,6 @@
 // The device that lines come from, one after another.
 ghost use Rattle.std.specs.Prelude.{◌≡◌, ℕ, ◌≤◌, List, Bool, false, true, Option};
-ghost use Rattle.lei_outside.specs.Count.{Rose};
+ghost use Rattle.lei_values.specs.Count.{Rose};
 ghost use Rattle.lei_outside.specs.Doors.{Comes, IsFailed, TakesBack, is_line};
 
 use crate::Link;

@@ -1,7 +1,7 @@
 // The device that bytes come from and go to: both directions of a connection.
 ghost use Rattle.std.specs.Prelude.{◌≡◌, ℕ, ◌<◌, ◌≤◌, List, Option, length, OnOk, OnErr, IsErrOf};
 ghost use Rattle.lei_outside.specs.Told.{Grows, Reads, Writes, WritesFront};
-ghost use Rattle.lei_outside.specs.Count.{Rose};
+ghost use Rattle.lei_values.specs.Count.{Rose};
 ghost use Rattle.lei_outside.specs.Faults.{FailsLast};
 ghost use Rattle.lei_outside.specs.Links.{link_told};
 

@@ -1,7 +1,7 @@
 //! The device that bytes go to.
 ghost use Rattle.std.specs.Prelude.{◌≡◌, ℕ, ◌<◌, ◌≤◌, List, Option, length, OnOk, OnErr, IsErrOf};
 ghost use Rattle.lei_outside.specs.Told.{Grows, WritesFront, Writes};
-ghost use Rattle.lei_outside.specs.Count.{Rose};
+ghost use Rattle.lei_values.specs.Count.{Rose};
 ghost use Rattle.lei_outside.specs.Faults.{FailsLast};
 
 use crate::SinkFault;

@@ -1,7 +1,7 @@
 // The device that bytes come from.
 ghost use Rattle.std.specs.Prelude.{◌≡◌, ℕ, ◌<◌, ◌≤◌, List, Option, length, OnErr, OnOk};
 ghost use Rattle.lei_outside.specs.Told.{Reads};
-ghost use Rattle.lei_outside.specs.Count.{Rose};
+ghost use Rattle.lei_values.specs.Count.{Rose};
 
 use crate::Failed;
 

@@ -5,8 +5,8 @@ use Rattle.std.specs.Cmp.Lexicographic.{pointwise}
 use Rattle.std.specs.Str.{IsUtf8}
 use Rattle.std.proofs.lemmas.Grind.{take-set_at}
 use Rattle.std.proofs.lemmas.List.{length-set, length-take-le}
-use Rattle.lei_outside.specs.Pieces.{AreEnds, pieces}
-use Rattle.lei_outside.proofs.PieceLemmas.{ends_grow, length_pieces, pieces_grow, texts_compare}
+use Rattle.lei_values.specs.Pieces.{AreEnds, pieces}
+use Rattle.lei_values.proofs.PieceLemmas.{ends_grow, length_pieces, pieces_grow, texts_compare}
 use Rattle.lei_records.specs.Places.{record_places}
 use Rattle.lei_records.specs.Rows.{Row}
 

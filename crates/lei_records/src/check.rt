@@ -5,8 +5,8 @@ ghost use Rattle.lei_records.specs.Checks.{IsCheckNumber, check_name, check_text
 
 use crate::numbers::*;
 use lei_code::Lei;
-use lei_outside::Text;
 use lei_shapes::RecordStatus;
+use lei_values::Text;
 use std::fmt;
 use std::marker::Model;
 

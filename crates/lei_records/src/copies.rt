@@ -3,7 +3,7 @@ ghost use Rattle.std.specs.Prelude.{◌≡◌, IfOk};
 
 use crate::check::{Check, Detail};
 use crate::item::Item;
-use lei_outside::{NoMemory, Text};
+use lei_values::{NoMemory, Text};
 use std::alloc::Global;
 
 impl Item {

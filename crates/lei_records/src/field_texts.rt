@@ -3,11 +3,11 @@ ghost use Rattle.std.specs.Prelude.{◌≡◌, ◌==◌, ◌<◌, ◌≤◌, ◌
 ghost use Rattle.std.proofs.Common.{rules};
 ghost use Rattle.std.specs.Cmp.Rules.{comparing};
 ghost use Rattle.std.specs.Cmp.Lexicographic.{pointwise};
-ghost use Rattle.lei_outside.specs.Pieces.{AreEnds, pieces};
+ghost use Rattle.lei_values.specs.Pieces.{AreEnds, pieces};
 ghost use Rattle.lei_records.specs.Places.{record_places};
 
 use crate::places::RECORD_PLACES;
-use lei_outside::NoMemory;
+use lei_values::NoMemory;
 use std::alloc::Global;
 use std::fmt;
 use std::marker::Model;
@@ -24,7 +24,7 @@ pub struct FieldTexts {
 
 impl Model for FieldTexts {
     ghost use Rattle.std.specs.Prelude.{◌≤◌, length, string_bytes, take};
-    ghost use Rattle.lei_outside.specs.Pieces.{AreEnds, pieces};
+    ghost use Rattle.lei_values.specs.Pieces.{AreEnds, pieces};
     ghost use Rattle.lei_records.specs.Rows.{Row};
 
     ghost Value = { Row };

@@ -3,7 +3,7 @@ use crate::check::Check;
 use crate::exception::ExceptionItem;
 use crate::record::Record;
 use crate::relation::Relation;
-use lei_outside::{List, NoMemory, Texts};
+use lei_values::{List, NoMemory, Texts};
 use std::alloc::Global;
 use std::marker::Model;
 

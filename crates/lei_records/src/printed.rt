@@ -8,8 +8,8 @@ ghost use Rattle.lei_records.specs.Spelled.{IsPrinted, moment_in, present};
 use crate::field_texts::FieldTexts;
 use crate::places::RECORD_PLACES;
 use crate::texts::{moment_at, present_moment_at, text_at};
-use lei_outside::NoMemory;
 use lei_shapes::Moment;
+use lei_values::NoMemory;
 use std::alloc::Global;
 use std::marker::Model;
 

@@ -29,8 +29,8 @@ use crate::relation::Relation;
 use crate::rules::Rules;
 use crate::sheet::sheet_of;
 use lei_code::Lei;
-use lei_outside::{NoMemory, Text};
 use lei_shapes::{Moment, Shape, cut_at_space, is_code};
+use lei_values::{NoMemory, Text};
 use std::alloc::Global;
 
 /// Checks an item's fields by the newest rules, as [`ready_by`] does.

@@ -8,11 +8,11 @@ use crate::record::Record;
 use crate::relation::Relation;
 use crate::successors::Successors;
 use lei_code::Lei;
-use lei_outside::{List, Text};
 use lei_shapes::{
     Category, ExceptionCategory, Moment, RecordStatus, RelationRegistration, RelationStatus,
     RelationType,
 };
+use lei_values::{List, Text};
 
 /// A view's answer for a cell.
 #[derive(Clone, Copy, Debug, PartialEq, Eq)]

@@ -2,7 +2,8 @@
 ghost use Rattle.std.specs.Prelude.{◌≡◌};
 
 use keeper_sqlite::{Cause, SqliteKeeper};
-use lei_outside::{Batch, KeepFault, Keeper, KeptCell, KeptEntry, List};
+use lei_keeper::{KeepFault, Keeper};
+use lei_values::{Batch, KeptCell, KeptEntry, List};
 use sqlite::Alter;
 
 /// A keeper that knows why its last call failed.

@@ -1,9 +1,9 @@
 //! The keeper of a run: in memory, or over a file.
 use crate::reported::Reported;
 use keeper_sqlite::SqliteKeeper;
-use lei_outside::SureKeeper;
 use leireg_commands::OneOf;
 use leireg_devices::Watched;
+use memory_devices::SureKeeper;
 use sqlite::{Alter, File, FileStore};
 use std::mem::forget;
 

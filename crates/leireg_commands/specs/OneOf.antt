@@ -1,6 +1,6 @@
 -- One of two keepers: it tells what that one tells.
 use Rattle.std.specs.Prelude.{Option}
-use Rattle.lei_outside.specs.Keeping.{KeptTables}
+use Rattle.lei_values.specs.KeptTables.{KeptTables}
 use Rattle.leireg_commands.specs.declared.one_of.OneOf.{OneOf}
 
 -- What is told of the first, or else of the second.

@@ -1,7 +1,8 @@
 //! One of two keepers, and one of two readers, so that the commands of the program are compiled once for them.
 ghost use Rattle.leireg_commands.specs.OneOf.{either, left_of_either};
 
-use lei_outside::{Batch, KeepFault, Keeper, KeptCell, KeptEntry, List};
+use lei_keeper::{KeepFault, Keeper};
+use lei_values::{Batch, KeptCell, KeptEntry, List};
 use std::io::{self, Read};
 
 /// The first or the second. What it keeps, reads and tells is the same as for that one.

@@ -4,7 +4,7 @@ ghost use Rattle.program_words.specs.Words.{to_answer_lines};
 ghost use Rattle.leireg_run.specs.Words.{Mean, invocation_in};
 
 use crate::one_of::OneOf;
-use lei_outside::Keeper;
+use lei_keeper::Keeper;
 use leireg_devices::{FileSource, StdSink, SystemClock, WatchedSink};
 use leireg_run::run;
 use program_words::{Command, WantedRun};

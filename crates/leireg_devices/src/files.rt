@@ -1,7 +1,7 @@
 //! Files and the standard input as sources.
 ghost use Rattle.std.specs.Io.KnownBytes.{ReadConsumes};
 ghost use Rattle.std.specs.Prelude.{◌≡◌, ◌≤◌, ◌<◌, None, Some, length, IfOk, IfSome, OnErr, OnOk, MatchResult};
-ghost use Rattle.lei_outside.specs.Count.{Rose, count_up};
+ghost use Rattle.lei_values.specs.Count.{Rose, count_up};
 ghost use Rattle.lei_outside.specs.Told.{Reads};
 
 use crate::streams::read_once;

@@ -1,7 +1,7 @@
 //! Any writer of std, such as the standard output, as a sink, and single reads of a reader.
 ghost use Rattle.std.specs.Io.KnownBytes.{ReadConsumes, WriteAppends};
 ghost use Rattle.std.specs.Prelude.{◌≡◌, ◌≤◌, ◌<◌, None, length, IfOk, IsErrOf, MatchResult};
-ghost use Rattle.lei_outside.specs.Count.{Rose, count_up};
+ghost use Rattle.lei_values.specs.Count.{Rose, count_up};
 ghost use Rattle.lei_outside.specs.Told.{Writes};
 
 use lei_outside::{Failed, Sink, SinkFault};

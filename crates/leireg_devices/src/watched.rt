@@ -1,7 +1,8 @@
 //! A keeper that reports to a person how far the opening of its store is.
 ghost use Rattle.std.specs.Prelude.{◌≡◌};
 
-use lei_outside::{Batch, KeepFault, Keeper, KeptCell, KeptEntry, List};
+use lei_keeper::{KeepFault, Keeper};
+use lei_values::{Batch, KeptCell, KeptEntry, List};
 
 // A store with fewer entries opens at once, and nothing is reported of it.
 const MANY: u64 = 10_000;

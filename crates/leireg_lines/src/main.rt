@@ -2,9 +2,9 @@
 #![tactic(auto)]
 
 use command_ends::Stop;
-use lei_outside::SureKeeper;
 use leireg_devices::{FileSource, StdSink, SystemClock};
 use line_service::run_lines;
+use memory_devices::SureKeeper;
 use register_words::ExitStatus;
 use std::mem::forget;
 use std::process::ExitCode;

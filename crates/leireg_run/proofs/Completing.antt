@@ -5,7 +5,7 @@ use Rattle.lei_code.specs.Fault.{fault_of}
 use Rattle.lei_code.specs.declared.fault.LeiFault.{LeiFault}
 use Rattle.lei_outside.specs.Told.{Grows}
 use Rattle.file_commands.specs.Codes.{check_line, digits_fault, digits_line, code_status, WritesLine}
-use Rattle.lei_outside.specs.Keeping.{KeptTables}
+use Rattle.lei_values.specs.KeptTables.{KeptTables}
 use Rattle.leireg_run.specs.Ends.{CompletesRun, Does, WritesSummary}
 use Rattle.line_service.specs.Ends.{WritesDamage}
 use Rattle.line_service.specs.Outside.{OutputFails, Outside}

@@ -1,7 +1,7 @@
 -- How a run ends, by its command and its status.
 use Rattle.std.specs.Prelude.{◌≡◌, ◌<◌, ℕ, List, ◌⊎◌, length, Option, Some, Result, Ok}
-use Rattle.lei_outside.specs.Count.{Rose}
-use Rattle.lei_outside.specs.Keeping.{KeptTables}
+use Rattle.lei_values.specs.Count.{Rose}
+use Rattle.lei_values.specs.KeptTables.{KeptTables}
 use Rattle.lei_outside.specs.Told.{Grows, WritesFront}
 use Rattle.lei_code.specs.Fault.{fault_of}
 use Rattle.lei_code.specs.Texts.{Text}

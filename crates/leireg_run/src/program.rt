@@ -1,6 +1,6 @@
 //! The program's run, from its words, its inputs, its output, its keeper and its clock to its status.
 ghost use Rattle.std.specs.Prelude.{◌≡◌, ◌≢◌, ◌⊎◌, None, Some, Ok, false, map, string_bytes, IsErrOf};
-ghost use Rattle.lei_outside.specs.Count.{Rose};
+ghost use Rattle.lei_values.specs.Count.{Rose};
 ghost use Rattle.leireg_run.specs.Ends.{Does, DoesIfRead, CompletesRun};
 ghost use Rattle.line_service.specs.Ends.{IsUnopened, WritesDamage};
 ghost use Rattle.line_service.specs.Opened.{MayTell};
@@ -14,7 +14,8 @@ use crate::command::command_of;
 use crate::demo::tell_demo;
 use command_ends::Stop;
 use file_commands::{apply, check, digits, group, mirror, search};
-use lei_outside::{Clock, Keeper, Sink, Source};
+use lei_keeper::Keeper;
+use lei_outside::{Clock, Sink, Source};
 use line_service::run_lines;
 use program_words::{Command, WordsFault};
 use register_words::ExitStatus;

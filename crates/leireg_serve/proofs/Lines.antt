@@ -1,7 +1,7 @@
 -- The lines of a door, served one after another.
 use Rattle.std.proofs.Common.{◌≡◌, ℕ, ℤ, List, [], ◌∷◌, ◌++◌, map, false, Option, None, Some, refl, sym, ap, ◌∙◌, subst, append_assoc}
 use Rattle.std.proofs.lemmas.List.{append-nil, map-append}
-use Rattle.lei_outside.specs.Count.{Rose}
+use Rattle.lei_values.specs.Count.{Rose}
 use Rattle.lei_outside.specs.Doors.{Comes, TakesBack}
 use Rattle.lei_outside.specs.declared.door.Came.{Came}
 use Rattle.request_loop.specs.Serving as any

@@ -1,7 +1,8 @@
 -- Serving over a store that was opened.
 use Rattle.std.proofs.Common.{◌≡◌, ◌⊎◌, ℕ, List, map, Option, None, Some, IfSome, inl, inr, refl, sym, ap, ◌∙◌, subst, arith}
 use Rattle.std.specs.List.{AllZip}
-use Rattle.lei_outside.specs.Keeping.{KeptTables, TablesStay}
+use Rattle.lei_values.specs.KeptTables.{KeptTables}
+use Rattle.lei_keeper.specs.Keeping.{TablesStay}
 use Rattle.register_words.specs.Limits.{standard}
 use Rattle.register_words.specs.declared.limits.Limits.{Limits}
 use Rattle.register_history.specs.Damage.{IsDamage}

@@ -1,6 +1,6 @@
 -- What serving the lines of a door does.
 use Rattle.std.specs.Prelude.{◌≡◌, ℕ, ◌+◌, ℤ, Bool, false, List, [], ◌∷◌, ◌++◌, map, Option, None, Some, IfSome}
-use Rattle.lei_outside.specs.Count.{Rose}
+use Rattle.lei_values.specs.Count.{Rose}
 use Rattle.request_loop.specs.Serving.{progress}
 use Rattle.lei_hall.specs.Calling.{IsSamePass, TakesTurns}
 use Rattle.lei_hall.specs.Passes.{HallPass}

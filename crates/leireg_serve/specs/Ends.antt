@@ -1,8 +1,9 @@
 -- How serving ends, by its status.
 use Rattle.std.specs.Prelude.{◌≡◌, ◌⊎◌, ℕ, List, [], ◌∷◌, map, Option, IfSome}
 use Rattle.atomic_table.specs.Seated.{TableId}
-use Rattle.lei_outside.specs.Count.{Rose}
-use Rattle.lei_outside.specs.Keeping.{KeptTables, TablesStay}
+use Rattle.lei_values.specs.Count.{Rose}
+use Rattle.lei_values.specs.KeptTables.{KeptTables}
+use Rattle.lei_keeper.specs.Keeping.{TablesStay}
 use Rattle.register_words.specs.Limits.{standard}
 use Rattle.register_history.specs.Damage.{IsDamage}
 use Rattle.register_history.specs.Kept.{Keeps, StaysUntold}

@@ -7,7 +7,8 @@ ghost use Rattle.leireg_serve.specs.Desks.{ServesDesk, ServesLine, desk_state, l
 use http_heads::Place;
 use issuer_http::{Ended, serve_caller};
 use lei_hall::{Caller, Pass};
-use lei_outside::{Came, Clock, Door, Gate, Keeper, Link};
+use lei_keeper::Keeper;
+use lei_outside::{Came, Clock, Door, Gate, Link};
 use matchit::Router;
 use std::alloc::Global;
 use std::sync::Wait;

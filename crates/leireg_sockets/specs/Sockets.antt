@@ -1,6 +1,6 @@
 -- Connections over a stream, and the door that they come through, as contracts see them.
 use Rattle.std.specs.Prelude.{◌≡◌, ◌<◌, ◌-◌, ◌⊎◌, ℕ, Bool, false, true, Option, None, Some, Result, Ok, Err}
-use Rattle.lei_outside.specs.Count.{count_up}
+use Rattle.lei_values.specs.Count.{count_up}
 use Rattle.lei_outside.specs.declared.door.Came.{Came}
 
 -- A link over a stream: the stream, and how many reads and writes have failed.

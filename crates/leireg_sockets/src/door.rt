@@ -1,6 +1,6 @@
 //! A door that the connections of a listener come through.
 ghost use Rattle.std.specs.Prelude.{◌≡◌, ◌≤◌, None, true, false, is_some};
-ghost use Rattle.lei_outside.specs.Count.{Rose};
+ghost use Rattle.lei_values.specs.Count.{Rose};
 ghost use Rattle.lei_outside.specs.Doors.{Comes, IsFailed, is_line};
 ghost use Rattle.leireg_sockets.specs.Sockets.{GivesLine, IsNewStream, ListenerState, Waits};
 

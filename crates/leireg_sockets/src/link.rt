@@ -1,7 +1,7 @@
 //! Links over streams.
 ghost use Rattle.std.specs.Io.KnownBytes.{ReadConsumes, WriteAppends};
 ghost use Rattle.std.specs.Prelude.{◌≡◌, ◌≤◌, ◌<◌, None, length, IfOk, IfErr, OnOk, OnErr, IsErrOf};
-ghost use Rattle.lei_outside.specs.Count.{Rose, count_up};
+ghost use Rattle.lei_values.specs.Count.{Rose, count_up};
 ghost use Rattle.lei_outside.specs.Told.{Reads, Writes};
 ghost use Rattle.leireg_sockets.specs.Sockets.{StreamState};
 

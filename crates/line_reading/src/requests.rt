@@ -5,7 +5,7 @@ ghost use Rattle.line_reading.specs.Requests.{cut_at_space, accreditation_reques
 ghost use Rattle.line_reading.specs.LineWords.{asked_by_words};
 
 use lei_code::Lei;
-use lei_outside::{NoMemory, Shared};
+use lei_values::{NoMemory, Shared};
 use register_words::{
     Asked, Call, Refusal, Request, base_of, code_of, form_of, number_of, sheet_of,
 };

@@ -6,7 +6,8 @@ ghost use Rattle.lei_outside.specs.Links.{link_told};
 ghost use Rattle.request_loop.specs.Wires.{IsSent};
 ghost use Rattle.line_reading.specs.WriteBuffer.{Sends};
 
-use lei_outside::{NoMemory, SinkFault};
+use lei_outside::SinkFault;
+use lei_values::NoMemory;
 use request_loop::{Wire, send_piece};
 use std::alloc::Global;
 use std::marker::Model;

@@ -2,14 +2,14 @@
 use Rattle.std.proofs.Common.{◌≡◌, ◌≢◌, ◌⊎◌, ◌<◌, ◌≤◌, ℕ, Ok, List, ◌++◌, length, Option, Some, None, Contains, inl, inr, ap, sym, subst, ◌∙◌, arith, length-append}
 use Rattle.std.proofs.lemmas.List.{append-nil}
 use Rattle.std.specs.Str.Lines.{lines}
-use Rattle.lei_outside.specs.Count.{Rose}
+use Rattle.lei_values.specs.Count.{Rose}
 use Rattle.lei_outside.specs.Told.{Grows, Loses, IsAtEnd}
 use Rattle.register_words.specs.declared.reply.Refusal.TheVariants.{NoMemory}
 use Rattle.register_words.specs.declared.reply.Reply.TheVariants.{Words}
 use Rattle.register_history.specs.Legal.{OfficeSession, replies_to}
 use Rattle.register_history.specs.State.{OfficeState}
 use Rattle.register_history.proofs.Sessions.{exact}
-use Rattle.lei_outside.specs.Keeping.{KeptTables}
+use Rattle.lei_values.specs.KeptTables.{KeptTables}
 use Rattle.line_service.specs.Ends.{AnswersLines, EndsRunWith, FailsToOpen, IsComplete, WritesDamage}
 use Rattle.line_service.specs.Opened.{Opens}
 use Rattle.request_loop.specs.Counts.{RoseBy}

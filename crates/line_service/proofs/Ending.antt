@@ -1,7 +1,7 @@
 -- How a run over lines ends, by how serving them ended.
 use Rattle.std.proofs.Common.{◌≡◌, ◌⊎◌, ◌<◌, ℕ, List, length, Option, inl, inr, refl}
 use Rattle.std.specs.Str.Lines.{lines}
-use Rattle.lei_outside.specs.Keeping.{KeptTables}
+use Rattle.lei_values.specs.KeptTables.{KeptTables}
 use Rattle.lei_outside.specs.Told.{Loses}
 use Rattle.register_history.specs.Kept.{Keeps}
 use Rattle.request_loop.specs.Serving.{Progress, Serves}

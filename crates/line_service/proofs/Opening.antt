@@ -1,8 +1,9 @@
 -- Runs over lines, with a store that is opened and with a store that isn't.
 use Rattle.std.proofs.Common.{◌≡◌, ℕ, ℤ, List, Option, Ok, inl, inr, refl, sym, ap, subst, ◌∙◌, arith}
 use Rattle.std.specs.Prelude.{IfSome}
-use Rattle.lei_outside.specs.Count.{Rose}
-use Rattle.lei_outside.specs.Keeping.{KeptTables, TablesStay}
+use Rattle.lei_values.specs.Count.{Rose}
+use Rattle.lei_values.specs.KeptTables.{KeptTables}
+use Rattle.lei_keeper.specs.Keeping.{TablesStay}
 use Rattle.lei_outside.specs.Told.{Grows}
 use Rattle.register_history.specs.declared.damage.Damage.{Damage}
 use Rattle.register_history.specs.Damage.{IsDamage}

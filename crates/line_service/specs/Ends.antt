@@ -1,8 +1,9 @@
 -- How a run over lines ends, by its status.
 use Rattle.std.specs.Prelude.{◌≡◌, ◌≢◌, ◌<◌, ◌≤◌, ℕ, ℤ, List, ◌++◌, ◌⊎◌, length, codes, decimal, Contains, Option, IfSome, Result, Ok, Err}
 use Rattle.std.specs.Str.Lines.{lines}
-use Rattle.lei_outside.specs.Count.{Rose}
-use Rattle.lei_outside.specs.Keeping.{KeptTables, TablesStay}
+use Rattle.lei_values.specs.Count.{Rose}
+use Rattle.lei_values.specs.KeptTables.{KeptTables}
+use Rattle.lei_keeper.specs.Keeping.{TablesStay}
 use Rattle.lei_outside.specs.Told.{Grows, IsAtEnd, WritesFront}
 use Rattle.lei_code.specs.Texts.{Text}
 use Rattle.register_words.specs.declared.reply.Refusal.TheVariants.{NoMemory}

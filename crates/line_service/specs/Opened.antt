@@ -1,6 +1,7 @@
 -- The office from which lines are answered.
 use Rattle.std.specs.Prelude.{◌≡◌, Option}
-use Rattle.lei_outside.specs.Keeping.{KeptTables, TablesStay}
+use Rattle.lei_values.specs.KeptTables.{KeptTables}
+use Rattle.lei_keeper.specs.Keeping.{TablesStay}
 use Rattle.register_words.specs.Limits.{standard}
 use Rattle.register_history.specs.Kept.{Keeps, StaysUntold}
 use Rattle.register_history.specs.Legal.{Legal}

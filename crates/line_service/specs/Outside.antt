@@ -1,8 +1,8 @@
 -- The outside of a run, as its devices tell it, and what a run does to it.
 use Rattle.std.specs.Prelude.{◌≡◌, ℕ, ℤ, List, Option}
-use Rattle.lei_outside.specs.Count.{Rose}
+use Rattle.lei_values.specs.Count.{Rose}
 use Rattle.lei_outside.specs.Faults.{FailsLast}
-use Rattle.lei_outside.specs.Keeping.{KeptTables}
+use Rattle.lei_values.specs.KeptTables.{KeptTables}
 use Rattle.lei_outside.specs.Told.{Grows, Loses}
 use Rattle.register_words.specs.declared.reply.Reply.{Reply}
 use Rattle.register_history.specs.Kept.{Keeps}

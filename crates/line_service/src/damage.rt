@@ -1,6 +1,6 @@
 //! Reports a store that is damaged.
 ghost use Rattle.std.specs.Prelude.{◌≡◌, ◌⊎◌, IsErrOf};
-ghost use Rattle.lei_outside.specs.Count.{Rose};
+ghost use Rattle.lei_values.specs.Count.{Rose};
 ghost use Rattle.lei_outside.specs.Faults.{FailsLast};
 ghost use Rattle.lei_outside.specs.Told.{Grows};
 ghost use Rattle.request_loop.specs.Devices.{FailsIf};

@@ -1,7 +1,8 @@
 //! A run over lines: it opens the office of what a keeper has, and answers the lines of an input from it.
 ghost use Rattle.std.specs.Prelude.{◌≡◌, [], Ok, Option, IfErr, IfOk, IsErrOf};
-ghost use Rattle.lei_outside.specs.Count.{Rose};
-ghost use Rattle.lei_outside.specs.Keeping.{KeptTables, TablesStay};
+ghost use Rattle.lei_values.specs.Count.{Rose};
+ghost use Rattle.lei_values.specs.KeptTables.{KeptTables};
+ghost use Rattle.lei_keeper.specs.Keeping.{TablesStay};
 ghost use Rattle.request_loop.specs.Devices.{FailsIf};
 ghost use Rattle.register_history.specs.Kept.{Keeps, StaysUntold};
 ghost use Rattle.register_words.specs.Limits.{standard};
@@ -14,8 +15,9 @@ ghost use Rattle.command_ends.specs.Status.{end_status};
 
 use crate::damage::tell_damage;
 use command_ends::{MAX_INPUT, Stop, ended_as};
+use lei_keeper::Keeper;
 use lei_office::{Limits, Office, OpenFault};
-use lei_outside::{Clock, Keeper, Sink, Source};
+use lei_outside::{Clock, Sink, Source};
 use line_reading::LineFraming;
 use request_loop::{Duplex, Intake, serve};
 use std::alloc::Global;

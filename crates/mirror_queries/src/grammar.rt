@@ -5,7 +5,7 @@ ghost use Rattle.mirror_queries.specs.Grammar.{mirror_says_alone, mirror_says_wi
 use crate::sizes::{read_large, read_size};
 use copy_csv::Sheet;
 use lei_mirror::PacketKind;
-use lei_outside::NoMemory;
+use lei_values::NoMemory;
 use line_reading::requests::cut_first_word;
 use query_reading::{Grammar, LineMeaning, QueryRefusal};
 use register_words::sheet_of;

@@ -3,7 +3,7 @@ ghost use Rattle.std.specs.Prelude.{◌≡◌, ◌≤◌, ◌+◌, ◌++◌, [],
 ghost use Rattle.mirror_queries.specs.Answering.{progress_text};
 
 use lei_mirror::Standing;
-use lei_outside::Bytes;
+use lei_values::Bytes;
 
 /// A number of bytes that is enough for the text of any standing.
 pub const STANDING_ROOM: usize = 128;

@@ -3,7 +3,7 @@ ghost use Rattle.std.specs.Prelude.{◌≡◌};
 ghost use Rattle.name_search.specs.declared.faults.FindFault.TheVariants as finding;
 ghost use Rattle.name_search.specs.declared.faults.TakeFault.TheVariants as taking;
 
-use lei_outside::NoMemory;
+use lei_values::NoMemory;
 use std::alloc::{AllocError, AllocFailed};
 
 /// Why an index doesn't take a delta.

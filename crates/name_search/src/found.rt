@@ -1,5 +1,5 @@
 //! The result of a search.
-use lei_outside::{List, Text};
+use lei_values::{List, Text};
 
 /// What a search found.
 #[derive(Debug, Drop)]

@@ -13,7 +13,7 @@ use crate::named_row::NamedRow;
 use crate::places::row_at;
 use crate::postings::{Keys, note_key};
 use crate::word::Word;
-use lei_outside::{NoMemory, Text};
+use lei_values::{NoMemory, Text};
 use std::alloc::Global;
 use std::collections::BTreeSet;
 

@@ -20,7 +20,7 @@ use crate::postings::Postings;
 use crate::word::Word;
 use crate::words::words_of;
 use copy_csv::{CopyRead, DeltaRead};
-use lei_outside::{List, NoMemory};
+use lei_values::{List, NoMemory};
 use std::alloc::Global;
 use std::marker::Model;
 use std::mem;

@@ -15,7 +15,7 @@ use crate::key::SearchKey;
 use crate::named_row::{NamedRow, text_of};
 use crate::places::place_of;
 use copy_csv::{Change, Head};
-use lei_outside::NoMemory;
+use lei_values::NoMemory;
 use std::alloc::Global;
 use std::collections::VecDeque;
 use std::sync::ledger::Ledger;

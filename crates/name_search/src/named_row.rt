@@ -11,7 +11,7 @@ use crate::key::Key;
 use crate::word::Word;
 use crate::words::words_in_step;
 use copy_csv::{Row, Sheet};
-use lei_outside::{List, NoMemory, Text};
+use lei_values::{List, NoMemory, Text};
 use std::alloc::Global;
 use std::marker::Model;
 use std::sync::ledger::Ledger;

@@ -9,7 +9,7 @@ ghost use Rattle.name_search.specs.Walks.{is_noted};
 use crate::named_row::NamedRow;
 use crate::postings::Postings;
 use copy_csv::Row;
-use lei_outside::NoMemory;
+use lei_values::NoMemory;
 use std::alloc::Global;
 use std::sync::ledger::Ledger;
 use worker_pool::Steps;

@@ -13,7 +13,7 @@ use crate::named_row::NamedRow;
 use crate::places::row_near;
 use crate::rising::RisingKeys;
 use crate::word::Word;
-use lei_outside::NoMemory;
+use lei_values::NoMemory;
 use std::alloc::Global;
 use std::collections::{BTreeMap, BTreeSet};
 

@@ -8,7 +8,7 @@ ghost use Rattle.lei_code.specs.Texts.{Text as Bytes};
 ghost use Rattle.name_search.specs.Keys.{is_one_of_keys};
 
 use crate::key::Key;
-use lei_outside::NoMemory;
+use lei_values::NoMemory;
 use std::alloc::Global;
 use std::cmp::Ordering;
 use std::marker::Model;

@@ -4,7 +4,7 @@ ghost use Rattle.name_search.specs.Words as spec;
 
 use crate::word::{Word, texts_of};
 use caseless::default_case_fold_str;
-use lei_outside::{List, NoMemory, Text};
+use lei_values::{List, NoMemory, Text};
 use std::alloc::Global;
 use std::sync::ledger::Ledger;
 use unicode_normalization::to_nfkc;

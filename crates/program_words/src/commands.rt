@@ -10,7 +10,7 @@ ghost use Rattle.program_words.specs.Reading.{FindsWords};
 use crate::fault::WordsFault;
 use clap::error::ErrorKind;
 use clap::{Arg, ArgAction, ArgMatches, Command};
-use lei_outside::NoMemory;
+use lei_values::NoMemory;
 use std::alloc::Global;
 
 // A command with this name that has no option yet.

@@ -1,5 +1,5 @@
 //! Why words can't be read.
-use lei_outside::NoMemory;
+use lei_values::NoMemory;
 use std::alloc::AllocError;
 
 /// Why the words after the program's name can't be read.

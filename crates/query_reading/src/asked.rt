@@ -1,6 +1,6 @@
 //! What queries ask.
 use crate::refusal::QueryRefusal;
-use lei_outside::Shared;
+use lei_values::Shared;
 
 /// What is asked by a line, and by the packet after it if the line announces one.
 #[derive(Drop)]

@@ -4,7 +4,7 @@ ghost use Rattle.query_reading.specs.Meanings.{IsWholeQuery};
 ghost use Rattle.query_reading.specs.declared.grammar.LineMeaning.{LineMeaning as Meaning};
 
 use crate::refusal::QueryRefusal;
-use lei_outside::NoMemory;
+use lei_values::NoMemory;
 use std::alloc::Global;
 
 /// The greatest length of a line, without its end, in bytes. This project's profile.

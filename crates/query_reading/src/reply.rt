@@ -1,6 +1,6 @@
 //! The replies to queries.
 use crate::refusal::QueryRefusal;
-use lei_outside::Bytes;
+use lei_values::Bytes;
 
 /// The reply to a query.
 #[derive(Debug, PartialEq, Eq, Drop)]

@@ -1,8 +1,9 @@
 -- The office that a demo starts with, and the entries that it ends with.
 use Rattle.std.proofs.Common.{◌≡◌, ℕ, List, [], ◌∷◌, ◌++◌, length, Some, refl, sym, ap, subst, ◌∙◌}
 use Rattle.std.specs.Prelude.{slice_get, count_by, ◌-◌}
-use Rattle.lei_outside.specs.Keeping.{KeptTables, TablesStay, entry_number, last_number, nothing_kept}
-use Rattle.lei_outside.specs.Memory.{SureKeeperState, tables_of}
+use Rattle.lei_values.specs.KeptTables.{KeptTables, entry_number, last_number, nothing_kept}
+use Rattle.lei_keeper.specs.Keeping.{TablesStay}
+use Rattle.memory_devices.specs.Memory.{SureKeeperState, tables_of}
 use Rattle.register_history.specs.Damage.{IsDamage}
 use Rattle.register_history.specs.Kept.{Keeps}
 use Rattle.register_history.specs.Legal.{Legal}

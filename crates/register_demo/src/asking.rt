@@ -11,8 +11,10 @@ use crate::bodies::block_body;
 use crate::codes::issuer_of;
 use crate::plan::{Group, Uploads, block_count, request_count, upload_number};
 use lei_office::{Call, Office, Refusal, Reply, Request};
-use lei_outside::{NoMemory, Sink, SureKeeper};
+use lei_outside::Sink;
 use lei_shapes::Moment;
+use lei_values::NoMemory;
+use memory_devices::SureKeeper;
 use std::alloc::Global;
 use std::thread::Threads;
 

@@ -6,7 +6,7 @@ ghost use Rattle.register_demo.specs.Plan.{block_count};
 use crate::codes::{manager, put_code};
 use crate::plan::{Group, first_item, last_item};
 use itoa::Buffer;
-use lei_outside::{NoMemory, Shared};
+use lei_values::{NoMemory, Shared};
 use std::alloc::Global;
 
 // Roughly how many bytes the body of a block has.

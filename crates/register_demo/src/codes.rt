@@ -6,7 +6,7 @@ ghost use Rattle.register_demo.specs.Codes.{demo_code, in_18_digits, manager};
 
 use itoa::write_digits;
 use lei_code::{Lei, check_digits};
-use lei_outside::NoMemory;
+use lei_values::NoMemory;
 
 // The issuer of the blocks 1, 3, 5 and so on.
 const FIRST_ISSUER: &str = "506700GE1G29325QX363";

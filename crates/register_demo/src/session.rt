@@ -14,7 +14,9 @@ use crate::summary::Told;
 use delta_apply::{ApplyFault, apply};
 use golden_shelf::Base;
 use lei_office::{Form, Office, Reply, Request, Sheet};
-use lei_outside::{Bytes, NoMemory, Sink, SureKeeper};
+use lei_outside::Sink;
+use lei_values::{Bytes, NoMemory};
+use memory_devices::SureKeeper;
 use std::alloc::Global;
 use std::thread::Threads;
 

@@ -4,7 +4,7 @@ ghost use Rattle.register_demo.specs.Summary.{delta_lines, lines_text, publicati
 
 use crate::marks::{digits_after, times};
 use itoa::Buffer;
-use lei_outside::{Bytes, NoMemory};
+use lei_values::{Bytes, NoMemory};
 use std::alloc::Global;
 
 /// What the replies say about a register that was made.

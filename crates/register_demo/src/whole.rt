@@ -1,7 +1,7 @@
 //! A made-up register and its summary.
 ghost use Rattle.std.specs.Prelude.{◌≡◌, ◌≤◌, IfOk};
-ghost use Rattle.lei_outside.specs.Keeping.{last_number};
-ghost use Rattle.lei_outside.specs.Memory.{tables_of};
+ghost use Rattle.lei_values.specs.KeptTables.{last_number};
+ghost use Rattle.memory_devices.specs.Memory.{tables_of};
 ghost use Rattle.register_words.specs.Limits.{standard};
 ghost use Rattle.register_history.specs.State.{new_office};
 ghost use Rattle.register_demo.specs.Session.{IsSummary, summary_with_counts};
@@ -9,8 +9,11 @@ ghost use Rattle.register_demo.specs.declared.summary.Told.{Told as Found};
 
 use crate::session::make;
 use crate::summary::{Told, summary_of};
+use lei_keeper::{KeepFault, Keeper};
 use lei_office::{Limits, Office, OpenFault};
-use lei_outside::{Bytes, KeepFault, Keeper, NoMemory, Sink, SureKeeper};
+use lei_outside::Sink;
+use lei_values::{Bytes, NoMemory};
+use memory_devices::SureKeeper;
 use std::alloc::Global;
 use std::thread::Threads;
 

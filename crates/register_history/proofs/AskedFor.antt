@@ -5,7 +5,7 @@ use Rattle.std.proofs.lemmas.Int.{ints}
 use Rattle.lei_code.specs.Code.{IsValid}
 use Rattle.lei_code.proofs.Faults.{fault_of-IsValid}
 use Rattle.lei_shapes.specs.Moment.{IsMoment, is_moment}
-use Rattle.lei_outside.specs.declared.entry.KeptEntry.{KeptEntry}
+use Rattle.lei_values.specs.declared.entry.KeptEntry.{KeptEntry}
 use Rattle.upload_format.specs.Bodies.{upload}
 use Rattle.register_words.specs.declared.malformed.Malformed.{Malformed}
 use Rattle.lei_records.specs.declared.item.RawItem.{RawItem}

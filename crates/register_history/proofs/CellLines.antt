@@ -1,7 +1,7 @@
 -- What the line of a cell shows of it.
 use Rattle.std.proofs.Common.{◌≡◌, ℕ, List, ◌∷◌, ◌++◌, decimal, sym, refl, ◌∙◌, arith}
 use Rattle.std.proofs.lemmas.Fmt.{decimal_injective}
-use Rattle.lei_outside.specs.declared.keeper.KeptCell.{KeptCell}
+use Rattle.lei_values.specs.declared.cell.KeptCell.{KeptCell}
 use Rattle.register_history.specs.Damage.{LineTellsCell, cell_line, row_word}
 use Rattle.register_history.proofs.EntryLines.{all-digits, past, until_space}
 

@@ -8,9 +8,9 @@ use Rattle.std.specs.List.{AllByRecursion}
 use Rattle.std.specs.Ordering.{eq_by_cmp, is_eq, is_lt, nat_cmp}
 use Rattle.authority_rules.proofs.HolderLemmas.{same_key, some_apart}
 use Rattle.authority_rules.proofs.KeyLemmas.{key_itself}
-use Rattle.lei_outside.specs.Keeping.{CellContent, CellPlace, CellsByPlace, KeptTables, cell_at}
-use Rattle.lei_outside.specs.declared.keeper.KeptCell.{KeptCell}
-use Rattle.lei_outside.proofs.CellLemmas.{tied}
+use Rattle.lei_values.specs.KeptTables.{CellContent, CellPlace, CellsByPlace, KeptTables, cell_at}
+use Rattle.lei_values.specs.declared.cell.KeptCell.{KeptCell}
+use Rattle.lei_values.proofs.Places.{tied}
 use Rattle.lei_records.specs.declared.view.RowKey.{RowKey}
 use Rattle.lei_records.specs.Tables.{KeyTexts, key_cmp}
 use Rattle.copy_forms.specs.Json.{json_record}

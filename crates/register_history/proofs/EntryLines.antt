@@ -8,7 +8,7 @@ use Rattle.std.proofs.Math.Seq.{drop-append_seam, take-append_seam}
 use Rattle.lei_shapes.specs.Clock.{moment_text}
 use Rattle.lei_shapes.specs.Moment.{IsMoment, read_moment}
 use Rattle.lei_shapes.proofs.MomentLemmas.{is_moment-true, read_moment-text}
-use Rattle.lei_outside.specs.declared.entry.KeptEntry.{KeptEntry}
+use Rattle.lei_values.specs.declared.entry.KeptEntry.{KeptEntry}
 use Rattle.register_history.specs.Damage.{entry_line, kind_word, moment_word, or_dash}
 
 -- ---- parts of lists

@@ -1,7 +1,7 @@
 -- What has damage isn't what a history leaves.
 use Rattle.std.proofs.Common.{◌≡◌, List, [], ◌∷◌, ◌++◌, length, sym, subst, ◌∙◌, inl, inr}
-use Rattle.lei_outside.specs.Keeping.{KeptTables}
-use Rattle.lei_outside.specs.declared.keeper.KeptCell.{KeptCell}
+use Rattle.lei_values.specs.KeptTables.{KeptTables}
+use Rattle.lei_values.specs.declared.cell.KeptCell.{KeptCell}
 use Rattle.upload_ledger.specs.History.{History}
 use Rattle.register_history.specs.declared.damage.Damage.{Damage}
 use Rattle.register_words.specs.declared.limits.Limits.{Limits}

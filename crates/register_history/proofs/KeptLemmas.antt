@@ -13,10 +13,11 @@ use Rattle.std.proofs.lemmas.Bool.{leb-true, ltb-true}
 use Rattle.std.proofs.lemmas.Bool.Decides.{nat_tests}
 use mathlib.Core.Bool.{true≢false}
 use Rattle.std.specs.Str.{IsAscii}
-use Rattle.lei_outside.specs.Keeping.{Becomes, CellContent, CellPlace, CellsByPlace, HaveOwnPlaces, IsBatch, IsCellOf, KeptTables, cell_content, cell_place, nothing_kept, put_cell, put_cells, with_batch}
-use Rattle.lei_outside.specs.declared.keeper.Batch.{Batch}
-use Rattle.lei_outside.specs.declared.keeper.KeptCell.{KeptCell}
-use Rattle.lei_outside.proofs.CellLemmas.{itself, tied}
+use Rattle.lei_values.specs.KeptTables.{CellContent, CellPlace, CellsByPlace, HaveOwnPlaces, IsBatch, IsCellOf, KeptTables, cell_content, cell_place, nothing_kept, put_cell, put_cells, with_batch}
+use Rattle.lei_keeper.specs.Keeping.{Becomes}
+use Rattle.lei_values.specs.declared.batch.Batch.{Batch}
+use Rattle.lei_values.specs.declared.cell.KeptCell.{KeptCell}
+use Rattle.lei_values.proofs.Places.{itself, tied}
 use Rattle.lei_records.specs.declared.item.Item.{Item}
 use Rattle.lei_records.specs.declared.view.RowKey.{RowKey}
 use Rattle.lei_records.specs.Tables.{KeyTexts, key_cmp, row_key}

@@ -7,8 +7,8 @@ use Rattle.std.specs.FinMap.{entries, entries_sorted, get-entries, nat_cmp-IsAnt
 use Rattle.std.specs.FinMap.Entries.{find, same_entries}
 use Rattle.std.specs.Ordering.{nat_cmp}
 use Rattle.std.specs.declared.cmp.Ordering.TheVariants.{Equal}
-use Rattle.lei_outside.specs.Keeping.{AreTouched, CellContent, CellPlace, KeptTables, cell_at}
-use Rattle.lei_outside.proofs.CellLemmas.{tied}
+use Rattle.lei_values.specs.KeptTables.{AreTouched, CellContent, CellPlace, KeptTables, cell_at}
+use Rattle.lei_values.proofs.Places.{tied}
 use Rattle.register_table.specs.Held.{Held}
 use Rattle.register_history.specs.Damage.{kept_page, made_page, page_bounds}
 use Rattle.register_history.specs.Kept.{AreCellsOf}

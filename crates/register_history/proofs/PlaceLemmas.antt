@@ -9,7 +9,7 @@ use Rattle.lei_code.proofs.Places.{code_is_ascii}
 use Rattle.lei_shapes.specs.declared.lists.ExceptionCategory.{ExceptionCategory}
 use Rattle.lei_shapes.specs.declared.lists.RelationType.{RelationType}
 use Rattle.lei_shapes.specs.Lists.{exception_category_text, relation_type_text}
-use Rattle.lei_outside.specs.Keeping.{cell_place}
+use Rattle.lei_values.specs.KeptTables.{cell_place}
 use Rattle.lei_records.specs.declared.view.RowKey.{RowKey}
 use Rattle.register_table.specs.declared.touched.Touched.{Touched}
 use Rattle.register_table.specs.Held.{cell_key}

@@ -6,7 +6,7 @@ use Rattle.std.specs.FinMap.{get-empty, len-empty, len-insert}
 use Rattle.std.specs.Cmp.{IsTotalOrder}
 use Rattle.std.proofs.lemmas.Bool.Decides.{nat_tests}
 use Rattle.std.proofs.lemmas.Cmp.{lists_total, nat_list_cmp_total}
-use Rattle.lei_outside.specs.declared.entry.KeptEntry.{KeptEntry}
+use Rattle.lei_values.specs.declared.entry.KeptEntry.{KeptEntry}
 use Rattle.serde_json.specs.Data.{Data}
 use Rattle.std.proofs.lemmas.Bool.{ltb-false}
 use Rattle.upload_format.specs.Bodies as bodies

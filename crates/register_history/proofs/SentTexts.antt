@@ -16,7 +16,7 @@ use Rattle.serde_json.specs.Find.{as_array, as_object, as_str, get_member}
 use Rattle.serde_json.specs.Read.{read}
 use Rattle.authority_rules.proofs.HolderLemmas.{keys_total, some_apart}
 use Rattle.lei_code.specs.Texts.{Text}
-use Rattle.lei_outside.specs.declared.entry.KeptEntry.{KeptEntry}
+use Rattle.lei_values.specs.declared.entry.KeptEntry.{KeptEntry}
 use Rattle.lei_shapes.specs.declared.shapes.Shape.{Shape}
 use Rattle.lei_shapes.specs.Clock.{moment_text}
 use Rattle.lei_shapes.specs.Moment.{IsMoment, is_moment, moment_of_instant, read_moment, whole_seconds}

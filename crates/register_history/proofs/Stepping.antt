@@ -2,7 +2,7 @@
 use Rattle.std.proofs.Common.{◌≡◌, inl, inr, ◌≤◌, ◌<◌, ℤ, [], ◌∷◌, ◌++◌, Bool, true, false, cond, length, Some, refl, sym, ap, subst, ◌∙◌, arith, append-nil, append_assoc, length-append}
 use Rattle.std.proofs.lemmas.Bool.{eqb-true}
 use Rattle.std.proofs.lemmas.List.Elements.{filter-append}
-use Rattle.lei_outside.specs.declared.entry.KeptEntry.{KeptEntry}
+use Rattle.lei_values.specs.declared.entry.KeptEntry.{KeptEntry}
 use Rattle.upload_ledger.specs.History.{History, is_publication, publications, published}
 use Rattle.register_words.specs.Requests.{IsRequest}
 use Rattle.register_words.specs.declared.limits.Limits.{Limits}

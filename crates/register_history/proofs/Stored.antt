@@ -4,7 +4,7 @@ use Rattle.std.specs.FinMap.{empty, get, get-empty, get-insert}
 use Rattle.std.specs.List.{AllByRecursion}
 use Rattle.std.specs.Ordering.{eq_by_cmp}
 use Rattle.authority_rules.proofs.HolderLemmas.{keys_total, same_key, some_apart}
-use Rattle.lei_outside.specs.declared.entry.KeptEntry.{KeptEntry}
+use Rattle.lei_values.specs.declared.entry.KeptEntry.{KeptEntry}
 use Rattle.lei_records.specs.Checks.{FailedCheck, first_failing}
 use Rattle.lei_records.specs.Tables.{Table, key_cmp, put_all, put_write, row_key}
 use Rattle.lei_records.specs.declared.item.Item.{Item}

@@ -1,15 +1,15 @@
 -- The table that an office keeps after one more entry.
 use Rattle.std.proofs.Common.{◌≡◌, ℕ, ◌+◌, ◌≤◌, List, [], ◌∷◌, ◌++◌, fold, true, false, cond, ◌==◌, length, Option, None, Some, refl, sym, ap, subst, ◌∙◌, arith, length-append}
 use Rattle.std.specs.Prelude.{IfSome, OnErr, OnOk, Result, Ok, Err}
-use Rattle.lei_outside.specs.declared.faults.KeepFault.{KeepFault}
+use Rattle.lei_keeper.specs.declared.fault.KeepFault.{KeepFault}
 use Rattle.register_words.specs.declared.reply.Reply.{Reply}
 use Rattle.std.specs.FinMap.{empty}
 use Rattle.std.specs.Str.{IsAscii}
 use Rattle.std.proofs.lemmas.Bool.{leb-false, ltb-false}
 use Rattle.std.proofs.lemmas.List.Sums.{fold-append, sum_by_push}
 use Rattle.lei_code.specs.Code.{IsValid}
-use Rattle.lei_outside.specs.Keeping.{KeptTables, entry_number, last_number, nothing_kept}
-use Rattle.lei_outside.specs.declared.entry.KeptEntry.{KeptEntry}
+use Rattle.lei_values.specs.KeptTables.{KeptTables, entry_number, last_number, nothing_kept}
+use Rattle.lei_values.specs.declared.entry.KeptEntry.{KeptEntry}
 use Rattle.lei_records.specs.Tables.{Table, put_all}
 use Rattle.register_judge.proofs.TakingLemmas.{take-written}
 use Rattle.register_table.specs.Held.{Held, TableState, no_rows, rows}

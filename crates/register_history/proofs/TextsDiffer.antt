@@ -8,7 +8,7 @@ use Rattle.lei_code.specs.Fault.{fault_of}
 use Rattle.lei_code.specs.declared.fault.LeiFault.{LeiFault}
 use Rattle.lei_code.proofs.Faults.{IsValid-from_fault_of}
 use Rattle.lei_shapes.specs.Moment.{IsMoment, is_moment}
-use Rattle.lei_outside.specs.declared.entry.KeptEntry.{KeptEntry}
+use Rattle.lei_values.specs.declared.entry.KeptEntry.{KeptEntry}
 use Rattle.upload_ledger.specs.History.{History}
 use Rattle.register_words.specs.declared.limits.Limits.{Limits}
 use Rattle.register_words.specs.declared.request.Request.{Request}

@@ -1,6 +1,6 @@
 -- The trail of a history that grows by an entry, and its latest publication.
 use Rattle.std.proofs.Common.{◌≡◌, ℕ, ◌+◌, ◌-◌, suc, ℤ, List, [], ◌∷◌, ◌++◌, length, map, Bool, true, false, cond, Option, Some, None, option_map, slice_get, refl, sym, ap, ◌∙◌, arith, append-nil, append_assoc, length-append}
-use Rattle.lei_outside.specs.declared.entry.KeptEntry.{KeptEntry}
+use Rattle.lei_values.specs.declared.entry.KeptEntry.{KeptEntry}
 use Rattle.copy_forms.specs.Trails.{Publication, Trail}
 use Rattle.golden_shelf.specs.Shelves.{latest}
 use Rattle.golden_shelf.proofs.Publishing.{latest_push}

@@ -6,9 +6,9 @@ use Rattle.lei_code.specs.Fault.{fault_of}
 use Rattle.lei_code.specs.Texts.{Text}
 use Rattle.lei_shapes.specs.Clock.{moment_text}
 use Rattle.lei_shapes.specs.Moment.{is_moment}
-use Rattle.lei_outside.specs.Keeping.{IsEntryNumber, KeptTables, cells_between}
-use Rattle.lei_outside.specs.declared.entry.KeptEntry.{KeptEntry}
-use Rattle.lei_outside.specs.declared.keeper.KeptCell.{KeptCell}
+use Rattle.lei_values.specs.KeptTables.{IsEntryNumber, KeptTables, cells_between}
+use Rattle.lei_values.specs.declared.entry.KeptEntry.{KeptEntry}
+use Rattle.lei_values.specs.declared.cell.KeptCell.{KeptCell}
 use Rattle.lei_records.specs.Tables.{KeyTexts}
 use Rattle.register_words.specs.declared.sheets.Sheet.{Sheet}
 use Rattle.copy_csv.specs.Sheets.{row_of_texts}

@@ -3,8 +3,8 @@ use Rattle.std.specs.Prelude.{◌≡◌, ℕ, List, [], ◌∷◌, ◌++◌, Opt
 use Rattle.std.specs.FinMap.{get}
 use Rattle.lei_code.specs.Code.{IsValid}
 use Rattle.lei_code.specs.Texts.{Text}
-use Rattle.lei_outside.specs.Keeping.{CellContent, CellPlace, CellsByPlace, KeptTables}
-use Rattle.lei_outside.specs.declared.keeper.KeptCell.{KeptCell}
+use Rattle.lei_values.specs.KeptTables.{CellContent, CellPlace, CellsByPlace, KeptTables}
+use Rattle.lei_values.specs.declared.cell.KeptCell.{KeptCell}
 use Rattle.lei_records.specs.declared.view.RowKey.{RowKey}
 use Rattle.lei_records.specs.Tables.{KeyTexts, exception_key, record_key, relation_key}
 use Rattle.register_words.specs.declared.sheets.Sheet.{Sheet}

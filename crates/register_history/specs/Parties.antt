@@ -3,7 +3,7 @@ use Rattle.std.specs.Prelude.{◌≡◌, List, [], ◌∷◌, ◌++◌, fold, if
 use Rattle.std.specs.FinMap.{insert}
 use Rattle.std.specs.List.{All}
 use Rattle.lei_code.specs.Texts.{Lei}
-use Rattle.lei_outside.specs.declared.entry.KeptEntry.{KeptEntry}
+use Rattle.lei_values.specs.declared.entry.KeptEntry.{KeptEntry}
 use Rattle.lei_records.specs.Cells.{lei_in, manager_in, receiver_in, status_in}
 use Rattle.lei_records.specs.Rows.{Row}
 use Rattle.lei_records.specs.Tables.{Rows, Table, put_all, record_key, row_at}

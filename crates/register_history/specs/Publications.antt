@@ -3,8 +3,8 @@ use Rattle.std.specs.Prelude.{◌≡◌, ℕ, nat_le, nat_lt, List, [], ◌∷�
 use Rattle.std.specs.FinMap.{values}
 use Rattle.std.specs.Str.{bytes_eq}
 use Rattle.lei_code.specs.Texts.{Text}
-use Rattle.lei_outside.specs.Keeping.{entry_number}
-use Rattle.lei_outside.specs.declared.entry.KeptEntry.{KeptEntry}
+use Rattle.lei_values.specs.KeptTables.{entry_number}
+use Rattle.lei_values.specs.declared.entry.KeptEntry.{KeptEntry}
 use Rattle.lei_shapes.specs.declared.lists.RelationRegistration.{RelationRegistration}
 use Rattle.lei_records.specs.Relations.{registration_in}
 use Rattle.lei_records.specs.Rows.{Row}

@@ -1,7 +1,7 @@
 -- The register: the table that a history's uploads leave.
 use Rattle.std.specs.Prelude.{◌≡◌, ◌+◌, List, [], length, map, fold, if◌then◌else◌, Result, Ok, Err}
 use Rattle.std.specs.FinMap.{empty}
-use Rattle.lei_outside.specs.declared.entry.KeptEntry.{KeptEntry}
+use Rattle.lei_values.specs.declared.entry.KeptEntry.{KeptEntry}
 use Rattle.lei_shapes.specs.Moment.{day_of}
 use Rattle.upload_format.specs.Bodies.{upload}
 use Rattle.register_words.specs.declared.malformed.Malformed.{Malformed}
@@ -17,7 +17,7 @@ use Rattle.register_judge.specs.Taking.{Taken, take}
 use Rattle.register_table.specs.Held.{Held, TableState, no_rows, rows}
 use Rattle.register_table.specs.Undos.{IsLater, WriteList, touch_all}
 use Rattle.register_words.specs.declared.limits.Limits.{Limits}
-use Rattle.lei_outside.specs.Keeping.{entry_number}
+use Rattle.lei_values.specs.KeptTables.{entry_number}
 use Rattle.upload_ledger.specs.History.{History, is_upload, last_entry}
 use Rattle.register_history.specs.State.{OfficeState}
 

@@ -3,7 +3,7 @@ use Rattle.std.specs.Prelude.{◌≡◌, ◌⊎◌, ℕ, ℤ, ◌+◌, List, [],
 use Rattle.std.specs.FinMap.{len}
 use Rattle.lei_code.specs.Texts as texts
 use Rattle.lei_code.specs.Texts.{Lei}
-use Rattle.lei_outside.specs.declared.entry.KeptEntry.{KeptEntry}
+use Rattle.lei_values.specs.declared.entry.KeptEntry.{KeptEntry}
 use Rattle.upload_format.specs.Bodies.{upload}
 use Rattle.register_words.specs.declared.malformed.Malformed.{Malformed}
 use Rattle.lei_shapes.specs.Moment.{day_of}

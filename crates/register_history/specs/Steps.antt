@@ -1,6 +1,6 @@
 -- What a step of an office does to its history.
 use Rattle.std.specs.Prelude.{◌≡◌, ◌⊎◌, ◌∷◌, [], ◌++◌}
-use Rattle.lei_outside.specs.declared.entry.KeptEntry.{KeptEntry}
+use Rattle.lei_values.specs.declared.entry.KeptEntry.{KeptEntry}
 use Rattle.register_history.specs.State.{OfficeState}
 
 -- one entry was added or none, and the limits stay

@@ -2,7 +2,7 @@
 use Rattle.std.specs.Prelude.{◌≡◌, ◌⊎◌, ◌-◌, ℕ, List, map, Some}
 use Rattle.std.specs.FinMap.{get}
 use Rattle.std.specs.List.{AllByRecursion}
-use Rattle.lei_outside.specs.declared.keeper.KeptCell.{KeptCell}
+use Rattle.lei_values.specs.declared.cell.KeptCell.{KeptCell}
 use Rattle.lei_records.specs.Tables.{KeyTexts}
 use Rattle.register_table.specs.declared.touched.Touched.{Touched}
 use Rattle.register_table.specs.Cells.{IsItemOf}

@@ -1,6 +1,6 @@
 //! The differences between a store and what the replay of its entries makes.
 
-use lei_outside::Bytes;
+use lei_values::Bytes;
 
 /// The first difference between what a keeper has and what the replay of its entries makes.
 #[derive(Debug, PartialEq, Eq, Drop)]

@@ -1,8 +1,8 @@
 //! Laws of the definitions. Each is the contract of a function that does nothing.
 ghost use Rattle.std.specs.Prelude.{◌≡◌, ◌<◌, ℤ, List, Contains, length};
 ghost use Rattle.lei_records.specs.Tables.{IsSoundTable};
-ghost use Rattle.lei_outside.specs.Keeping.{KeptTables};
-ghost use Rattle.lei_outside.specs.declared.keeper.KeptCell.{KeptCell};
+ghost use Rattle.lei_values.specs.KeptTables.{KeptTables};
+ghost use Rattle.lei_values.specs.declared.cell.KeptCell.{KeptCell};
 ghost use Rattle.register_history.specs.Damage.{DamageExcludes, DamageIsOne, EntryTextsDiffer, LineTellsCell};
 ghost use Rattle.register_words.specs.declared.limits.Limits.{Limits};
 ghost use Rattle.upload_ledger.specs.History.{History, publications};

@@ -9,7 +9,6 @@ ghost use Rattle.register_judge.specs.Checks;
 
 use crate::sitting::Sitting;
 use lei_code::Lei;
-use lei_outside::{NoMemory, Text};
 use lei_records::numbers::{
     DATE_FUTURE, DATES_ORDER, EVENT_DATES, EVENT_INCOMPLETE, INITIAL_DATE_CHANGED,
     MANAGER_NOT_UPLOADER, NOT_ISSUED, NOT_MANAGER, REGISTER_FULL, RENEWAL_DATE, STATUS_ENTITY,
@@ -17,6 +16,7 @@ use lei_records::numbers::{
 };
 use lei_records::{Check, Detail, RecCell, Record, Rules};
 use lei_shapes::{EventStatus, Moment, RecordStatus};
+use lei_values::{NoMemory, Text};
 use relation_rules::plain;
 use status_rules::{Party, entity_fits, renewal_fits, transition};
 use std::alloc::Global;

@@ -8,8 +8,8 @@ use crate::checks::{event_check, own_check, room_check};
 use crate::outcome::{JudgeStop, Verdict};
 use crate::records::check_with_held;
 use crate::sitting::Sitting;
-use lei_outside::NoMemory;
 use lei_records::{CellKey, Check, Item, Readied, RecCell, Record, Seen, View};
+use lei_values::NoMemory;
 use relation_rules::{Checked, exception_check, relation_check};
 use std::alloc::Global;
 

@@ -22,8 +22,8 @@ use crate::overlay::Overlay;
 use crate::sitting::Sitting;
 use cell_reads::{Noted, note_needs};
 use lei_code::Lei;
-use lei_outside::{List, NoMemory};
 use lei_records::{Item, Readied, RowKey, Rules, View};
+use lei_values::{List, NoMemory};
 use std::alloc::Global;
 
 // What was judged so far.

@@ -1,6 +1,6 @@
 //! The results of judging the items of an upload.
-use lei_outside::{List, NoMemory};
 use lei_records::{CellKey, Check, Reads, Writes};
+use lei_values::{List, NoMemory};
 use std::alloc::AllocError;
 
 /// The result for an item.

@@ -18,9 +18,9 @@ ghost use Rattle.register_judge.specs.Taking.{item_after};
 use crate::takers::Takers;
 use authority_rules::{holds, is_live, key_of};
 use lei_code::Lei;
-use lei_outside::NoMemory;
 use lei_records::{ExceptionItem, Item, RecCell, Record, RelCell, Relation, Seen, View};
 use lei_shapes::{ExceptionCategory, RelationType};
+use lei_values::NoMemory;
 use std::alloc::Global;
 use std::collections::BTreeMap;
 

@@ -10,11 +10,11 @@ use crate::checks::held_check;
 use crate::sitting::Sitting;
 use authority_rules::{is_live, key_of, taken};
 use lei_code::Lei;
-use lei_outside::{NoMemory, Text};
 use lei_records::numbers::{
     AUTHORITY_KEY_TAKEN, SUCCESSOR_CHAIN_LONG, SUCCESSOR_CYCLE, SUCCESSOR_UNKNOWN,
 };
 use lei_records::{CellKey, RecCell, Record, Rules, Seen, Successors, View};
+use lei_values::{NoMemory, Text};
 use relation_rules::{Checked, check_failure, check_with_lei};
 use std::alloc::Global;
 use successor_rules::{Walked, walk, walk_by_levels};

@@ -5,7 +5,7 @@ ghost use Rattle.short_texts.specs.Packed.{is_same_pair};
 ghost use Rattle.register_judge.specs.Overlays;
 
 use lei_code::Lei;
-use lei_outside::NoMemory;
+use lei_values::NoMemory;
 use short_texts::packed_pair;
 use std::alloc::Global;
 use std::collections::BTreeMap;

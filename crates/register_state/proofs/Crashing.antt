@@ -1,9 +1,10 @@
 -- What a crash may leave after a step that was to add an entry.
 use Rattle.std.proofs.Common.{◌≡◌, ◌⊎◌, inl, inr, ◌≤◌, [], ◌∷◌, ◌++◌, length, Option, None, Some, refl, sym, ap, subst, arith, length-append}
 use Rattle.std.specs.Prelude.{IfSome}
-use Rattle.lei_outside.specs.Keeping.{KeptTables, LeavesEither, LeavesTold, with_batch}
-use Rattle.lei_outside.specs.declared.entry.KeptEntry.{KeptEntry}
-use Rattle.lei_outside.specs.declared.keeper.Batch.{Batch}
+use Rattle.lei_values.specs.KeptTables.{KeptTables, with_batch}
+use Rattle.lei_keeper.specs.Keeping.{LeavesEither, LeavesTold}
+use Rattle.lei_values.specs.declared.entry.KeptEntry.{KeptEntry}
+use Rattle.lei_values.specs.declared.batch.Batch.{Batch}
 use Rattle.register_history.specs.Kept.{AreTablesOf, AreTablesWith, Keeps}
 use Rattle.register_history.specs.Legal.{Legal}
 use Rattle.register_history.specs.State.{OfficeState}

@@ -1,6 +1,6 @@
 -- The books of a register whose history grows by an entry.
 use Rattle.std.proofs.Common.{◌≡◌, ◌+◌, ℕ, ℤ, ◌∷◌, [], ◌++◌, true, sym, ap, subst, ◌∙◌}
-use Rattle.lei_outside.specs.declared.entry.KeptEntry.{KeptEntry}
+use Rattle.lei_values.specs.declared.entry.KeptEntry.{KeptEntry}
 use Rattle.lei_records.specs.Tables.{put_all}
 use Rattle.lei_shapes.specs.Moment.{IsMoment}
 use Rattle.register_table.specs.Held.{TableState, rows}

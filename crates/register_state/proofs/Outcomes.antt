@@ -6,7 +6,7 @@ use Rattle.lei_code.specs.Texts.{Lei, Text}
 use Rattle.lei_records.specs.Rows.{Row}
 use Rattle.lei_records.specs.Tables.{row_at}
 use Rattle.lei_records.specs.declared.item.RawItem.{RawItem}
-use Rattle.lei_outside.specs.declared.entry.KeptEntry.{KeptEntry}
+use Rattle.lei_values.specs.declared.entry.KeptEntry.{KeptEntry}
 use Rattle.register_state.specs.Books.{office_writes}
 use Rattle.register_state.specs.Deciding.{AddsNext, Decides, FitsNext}
 use Rattle.register_state.specs.declared.decision.Decision.{Decision}

@@ -4,7 +4,7 @@ use Rattle.std.proofs.lemmas.List.{length-map}
 use Rattle.std.specs.Result.{result_ok}
 use Rattle.cell_reads.specs.Reads.{Agrees}
 use Rattle.lei_code.specs.Texts.{Body}
-use Rattle.lei_outside.specs.declared.entry.KeptEntry.{KeptEntry}
+use Rattle.lei_values.specs.declared.entry.KeptEntry.{KeptEntry}
 use Rattle.lei_records.specs.Items.{ready}
 use Rattle.lei_records.specs.Tables.{IsSoundTable, Table, record_count}
 use Rattle.lei_records.specs.declared.item.RawItem.{RawItem}

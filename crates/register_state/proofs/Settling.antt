@@ -1,7 +1,7 @@
 -- An upload that is added leaves the shelf as it is.
 use Rattle.std.proofs.Common.{◌≡◌, Ok, sym, subst}
 use Rattle.golden_shelf.specs.Shelves.{ShelfState}
-use Rattle.lei_outside.specs.declared.entry.KeptEntry.{KeptEntry}
+use Rattle.lei_values.specs.declared.entry.KeptEntry.{KeptEntry}
 use Rattle.register_table.specs.Undos.{WriteList}
 use Rattle.register_words.specs.declared.request.Call.{Call}
 use Rattle.register_words.specs.declared.request.Request.TheVariants.{Upload}

@@ -14,9 +14,9 @@ use Rattle.lei_code.specs.Texts as texts
 use Rattle.golden_shelf.specs.Changes.{IsIssued, KeyChanges}
 use Rattle.golden_shelf.specs.declared.issue.Issue.{Issue}
 use Rattle.golden_shelf.specs.Shelves.{AreIssuesOf, Kept, KeepsTrail as KeepsTrail, ShelfState, last_after, latest, latest_rows}
-use Rattle.lei_outside.specs.Keeping.{entry_number}
-use Rattle.lei_outside.specs.declared.entry.KeptEntry.{KeptEntry}
-use Rattle.lei_outside.specs.declared.faults.NoMemory.{NoMemory}
+use Rattle.lei_values.specs.KeptTables.{entry_number}
+use Rattle.lei_values.specs.declared.entry.KeptEntry.{KeptEntry}
+use Rattle.lei_values.specs.declared.no_memory.NoMemory.{NoMemory}
 use Rattle.register_table.specs.Held.{Held}
 use Rattle.register_table.specs.Touched.{touched as touched_cells}
 use Rattle.upload_ledger.specs.History.{History, is_publication, last_entry, publications}

@@ -1,6 +1,6 @@
 -- The books of a register: its limits, its entries, and the table that they leave.
 use Rattle.std.specs.Prelude.{◌∷◌, [], ◌++◌}
-use Rattle.lei_outside.specs.declared.entry.KeptEntry.{KeptEntry}
+use Rattle.lei_values.specs.declared.entry.KeptEntry.{KeptEntry}
 use Rattle.register_table.specs.Held.{TableState}
 use Rattle.register_table.specs.Undos.{WriteList}
 use Rattle.upload_ledger.specs.History.{History}

@@ -1,7 +1,7 @@
 -- What a crash may leave from an office.
 use Rattle.std.specs.Prelude.{◌≡◌, ◌⊎◌, Option, None, Some, IsSome}
-use Rattle.lei_outside.specs.Keeping.{KeptTables}
-use Rattle.lei_outside.specs.declared.entry.KeptEntry.{KeptEntry}
+use Rattle.lei_values.specs.KeptTables.{KeptTables}
+use Rattle.lei_values.specs.declared.entry.KeptEntry.{KeptEntry}
 use Rattle.register_history.specs.Kept.{AreTablesOf}
 use Rattle.register_history.specs.Legal.{Legal}
 use Rattle.register_history.specs.State.{OfficeState}

@@ -1,10 +1,10 @@
 -- What is decided for a request before anything changes.
 use Rattle.std.specs.Prelude.{◌≡◌, ◌+◌, ◌++◌, ◌∷◌, [], length, IsTrue, Result, Ok, Err}
 use Rattle.std.specs.Str.{IsAscii}
-use Rattle.lei_outside.specs.declared.faults.KeepFault.{KeepFault}
-use Rattle.lei_outside.specs.declared.faults.KeepFault.TheVariants as keep_faults
-use Rattle.lei_outside.specs.declared.entry.KeptEntry.{KeptEntry}
-use Rattle.lei_outside.specs.declared.faults.NoMemory.{NoMemory}
+use Rattle.lei_keeper.specs.declared.fault.KeepFault.{KeepFault}
+use Rattle.lei_keeper.specs.declared.fault.KeepFault.TheVariants as keep_faults
+use Rattle.lei_values.specs.declared.entry.KeptEntry.{KeptEntry}
+use Rattle.lei_values.specs.declared.no_memory.NoMemory.{NoMemory}
 use Rattle.register_state.specs.Books.{office_writes}
 use Rattle.register_state.specs.declared.decision.Decision.{Decision}
 use Rattle.register_state.specs.declared.decision.Decision.TheVariants.{Adds, Stays}

@@ -1,6 +1,6 @@
 -- The result of replaying a stored entry.
 use Rattle.std.specs.Prelude.{◌≡◌, ◌≢◌, Option, Some, None}
-use Rattle.lei_outside.specs.declared.entry.KeptEntry.{KeptEntry}
+use Rattle.lei_values.specs.declared.entry.KeptEntry.{KeptEntry}
 use Rattle.lei_shapes.specs.Moment.{IsMoment}
 use Rattle.register_words.specs.Requests.{IsRequest}
 use Rattle.register_words.specs.declared.request.Request.{Request}

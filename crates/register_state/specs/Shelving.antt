@@ -1,7 +1,7 @@
 -- Shelving: what the shelf keeps of a history, and how that changes when a request is decided.
 use Rattle.std.specs.Prelude.{◌≡◌, Bool, true, false, Option, Some, Result, Ok, Err}
 use Rattle.golden_shelf.specs.Shelves.{Kept, ShelfState, KeepsTrail as KeepsTrail}
-use Rattle.lei_outside.specs.declared.faults.NoMemory.{NoMemory}
+use Rattle.lei_values.specs.declared.no_memory.NoMemory.{NoMemory}
 use Rattle.upload_ledger.specs.History.{is_publication}
 use Rattle.register_state.specs.Books.{office_with_entry}
 use Rattle.register_state.specs.declared.decision.Decision.{Decision}

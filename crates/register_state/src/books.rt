@@ -13,9 +13,9 @@ ghost use Rattle.register_history.specs.State.{new_office};
 
 use crate::entries::stamp;
 use fetched_cells::Fetched;
-use lei_outside::{KeptEntry, NoMemory};
 use lei_records::CellKey;
 use lei_shapes::Moment;
+use lei_values::{KeptEntry, NoMemory};
 use register_history::EntryTerms;
 use register_table::Table;
 use register_words::Limits;

@@ -1,8 +1,8 @@
 //! The type of a decision on a request.
 ghost use Rattle.std.specs.Prelude.{◌≡◌};
 
-use lei_outside::KeptEntry;
 use lei_records::Writes;
+use lei_values::KeptEntry;
 use register_words::{Refusal, Reply};
 
 /// A decision on a request: the reply, or the entry to add.

@@ -9,8 +9,8 @@ ghost use Rattle.register_words.specs.declared.limits.Limits.{Limits};
 
 use answer_texts::{accreditation_text, publication_text, upload_text};
 use lei_code::Lei;
-use lei_outside::{Bytes, KeptEntry, NoMemory, Shared};
 use lei_shapes::Moment;
+use lei_values::{Bytes, KeptEntry, NoMemory, Shared};
 use register_history::EntryTerms;
 use register_judge::Verdict;
 use register_words::Call;

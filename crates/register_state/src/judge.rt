@@ -7,9 +7,9 @@ ghost use Rattle.register_judge.specs.Taking.{take};
 ghost use Rattle.register_table.specs.Held.{rows};
 ghost use Rattle.register_state.specs.Judging.{ShowsTaken};
 
-use lei_outside::NoMemory;
 use lei_records::Readied;
 use lei_shapes::day_number;
+use lei_values::NoMemory;
 use register_judge::{JudgeStop, Outcome, Plan, Sitting, judge_by};
 use register_table::Table;
 use std::alloc::Global;

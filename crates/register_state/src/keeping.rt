@@ -2,8 +2,9 @@
 ghost use Rattle.std.specs.Prelude.{◌≡◌, ◌≤◌, ◌+◌, ◌++◌, ◌∷◌, [], IfOk, IfSome, OnOk, OnErr, IsAscii, IsErrOf, length, map, option_map};
 ghost use Rattle.std.specs.List.{AllByRecursion};
 ghost use Rattle.copy_forms.specs.Items.{item_text};
-ghost use Rattle.lei_outside.specs.Count.{Rose};
-ghost use Rattle.lei_outside.specs.Keeping.{LeavesTold, TablesStay, last_number};
+ghost use Rattle.lei_values.specs.Count.{Rose};
+ghost use Rattle.lei_values.specs.KeptTables.{last_number};
+ghost use Rattle.lei_keeper.specs.Keeping.{LeavesTold, TablesStay};
 ghost use Rattle.upload_ledger.specs.Limits.{AreFew};
 ghost use Rattle.register_history.specs.Kept.{AreTablesOf, AreTablesWith, IsKey, Keeps, StaysUntold, kept_cell, key_kind, key_name};
 ghost use Rattle.register_history.specs.Legal.{Legal};
@@ -17,8 +18,9 @@ ghost use Rattle.register_table.specs.Held.{Held};
 
 use crate::books::Books;
 use copy_forms::SharedItem;
-use lei_outside::{Batch, Bytes, KeepFault, Keeper, KeptCell, KeptEntry, List, NoMemory, Shared};
+use lei_keeper::{KeepFault, Keeper};
 use lei_records::{RowKey, Writes};
+use lei_values::{Batch, Bytes, KeptCell, KeptEntry, List, NoMemory, Shared};
 use register_table::{Table, Touched};
 use register_words::{Kind, Reply};
 use std::alloc::Global;

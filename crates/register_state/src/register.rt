@@ -1,6 +1,6 @@
 //! The register: it answers requests, and keeps the entries that it adds.
 ghost use Rattle.std.specs.Prelude.{◌≡◌, ◌≤◌, take, IfOk, IfSome, IsErrOf, IsSome, IsTrue, OnErr, Some};
-ghost use Rattle.lei_outside.specs.Count.{Rose};
+ghost use Rattle.lei_values.specs.Count.{Rose};
 ghost use Rattle.lei_records.specs.Tables.{cells_of};
 ghost use Rattle.fetched_cells.specs.Fetching.{HasJust, fetched_keys};
 ghost use Rattle.fetched_cells.specs.Maps.{fetched_view};
@@ -27,9 +27,10 @@ use crate::decision::Decision;
 use crate::entries::RULES;
 use fetched_cells::Fetched;
 use golden_shelf::Shelf;
-use lei_outside::{KeepFault, Keeper, KeptCell, KeptEntry, List, NoMemory};
+use lei_keeper::{KeepFault, Keeper};
 use lei_records::CellKey;
 use lei_shapes::Moment;
+use lei_values::{KeptCell, KeptEntry, List, NoMemory};
 use register_judge::Plan;
 use register_words::{Call, Limits, Reply, Request};
 use std::alloc::Global;

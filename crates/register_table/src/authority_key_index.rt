@@ -9,8 +9,8 @@ use crate::long_key_index::LongKeyIndex;
 use crate::short_key_index::ShortKeyIndex;
 use authority_rules::{is_live, key_of};
 use lei_code::Lei;
-use lei_outside::NoMemory;
 use lei_records::Record;
+use lei_values::NoMemory;
 use short_texts::packed_pair;
 use std::alloc::Global;
 

@@ -7,9 +7,9 @@ ghost use Rattle.lei_records.specs.Relations.{end_in, is_same_type};
 ghost use Rattle.register_table.specs.Indexes.{HasNewEnd, after_dropping, after_freeing, end_in_index, noted_end};
 
 use lei_code::Lei;
-use lei_outside::NoMemory;
 use lei_records::Relation;
 use lei_shapes::RelationType;
+use lei_values::NoMemory;
 use std::alloc::Global;
 use std::collections::BTreeMap;
 

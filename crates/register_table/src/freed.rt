@@ -11,8 +11,8 @@ use crate::authority_key_index::held_key;
 use crate::parts::{Note, Parts};
 use crate::writes::undo_notes;
 use copy_forms::SharedItem;
-use lei_outside::NoMemory;
 use lei_records::{Item, Record, Relation};
+use lei_values::NoMemory;
 
 /// Undoes writes by their notes, and drops the keys that nobody holds any more, except those that the notes of the
 /// writes before name. Nothing is allocated.

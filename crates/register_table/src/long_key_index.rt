@@ -6,7 +6,7 @@ ghost use Rattle.std.specs.Str.{bytes_eq};
 ghost use Rattle.register_table.specs.Indexes.{IsBare, after_dropping, after_freeing, noted_long};
 
 use lei_code::Lei;
-use lei_outside::NoMemory;
+use lei_values::NoMemory;
 use std::alloc::Global;
 use std::collections::BTreeMap;
 

@@ -12,8 +12,8 @@ use crate::cells::CellMap;
 use crate::ends::Ends;
 use crate::slots::Slot;
 use copy_forms::SharedItem;
-use lei_outside::NoMemory;
 use lei_records::{Item, RowKey};
+use lei_values::NoMemory;
 
 /// The cells, and two indexes over them. What an index returns is checked against the cells, so it may have more than
 /// they do.

@@ -4,7 +4,7 @@ ghost use Rattle.short_texts.specs.Packed.{is_same_pair};
 ghost use Rattle.register_table.specs.Indexes.{after_dropping, after_freeing, noted_short};
 
 use lei_code::Lei;
-use lei_outside::NoMemory;
+use lei_values::NoMemory;
 use std::alloc::Global;
 use std::collections::BTreeMap;
 

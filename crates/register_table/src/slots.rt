@@ -2,7 +2,7 @@
 ghost use Rattle.std.specs.Prelude.{◌≡◌, IfOk};
 
 use copy_forms::SharedItem;
-use lei_outside::NoMemory;
+use lei_values::NoMemory;
 
 /// What is held under a key: the item, or none after a withdrawal, and the number of the entry that touched the key
 /// last.

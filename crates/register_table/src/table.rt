@@ -22,9 +22,9 @@ use crate::writes::put_writes;
 use copy_forms::SharedItem;
 use fetched_cells::Fetched;
 use lei_code::Lei;
-use lei_outside::NoMemory;
 use lei_records::{CellKey, Reads, RecCell, RelCell, Seen, View, Writes};
 use lei_shapes::{ExceptionCategory, RelationType};
+use lei_values::NoMemory;
 use std::alloc::Global;
 use std::marker::Model;
 

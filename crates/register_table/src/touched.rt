@@ -7,8 +7,8 @@ ghost use Rattle.register_table.specs.Touched.{is_touched};
 
 use crate::slots::{Slot, share};
 use copy_forms::SharedItem;
-use lei_outside::NoMemory;
 use lei_records::RowKey;
+use lei_values::NoMemory;
 
 /// A key that was touched, with the number of the entry that touched it last. It has the item that is held under the
 /// key, or none after a withdrawal.

@@ -11,8 +11,8 @@ ghost use Rattle.register_table.specs.Undos.{AreOwn, IsOwn, StaysKept, cells_bef
 use crate::parts::{Note, Parts, put, put_back};
 use crate::slots::Slot;
 use copy_forms::SharedItem;
-use lei_outside::NoMemory;
 use lei_records::{Item, RowKey};
+use lei_values::NoMemory;
 use std::alloc::Global;
 
 /// Puts the writes of the entry with this number, from the first to the last, and notes what they replace. If `prints`

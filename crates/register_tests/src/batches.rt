@@ -1,8 +1,8 @@
 //! Which batches the tests may give to a keeper.
 ghost use Rattle.std.specs.Prelude.{IsTrue};
-ghost use Rattle.lei_outside.specs.Keeping.{IsBatch, IsCellOf};
+ghost use Rattle.lei_values.specs.KeptTables.{IsBatch, IsCellOf};
 
-use lei_outside::{Batch, KeptCell};
+use lei_values::{Batch, KeptCell};
 
 /// Whether it is a batch with one cell that may be committed.
 pub fn is_batch(batch: &Batch) -> bool

@@ -2,7 +2,8 @@
 use crate::exchanges::{Exchange, MOST, all_sent, only, reads_of, replies_within};
 use crate::http::{Server, end_of, none};
 use issuer_http::Ended;
-use lei_outside::{ByteLink, ByteSink, ByteSource, Bytes, List, NoMemory};
+use lei_values::{Bytes, List, NoMemory};
+use memory_devices::{ByteLink, ByteSink, ByteSource};
 use std::alloc::Global;
 use std::sync::Wait;
 use std::test::Fail;

@@ -3,8 +3,8 @@ use copy_forms::{
     Change, CopyRead, DeltaRead, Form, Head, RowTexts, Sheet, TextChange, copy_text, delta_text,
     read_copy, read_delta, row_texts,
 };
-use lei_outside::{Bytes, NoMemory};
 use lei_shapes::Moment;
+use lei_values::{Bytes, NoMemory};
 use std::alloc::Global;
 use std::test::Fail;
 

@@ -2,9 +2,9 @@
 ghost use Rattle.std.specs.Prelude.{◌≡◌, ◌<◌};
 ghost use Rattle.register_tests.specs.Octets.{octet_want, waiting_of};
 
-use lei_outside::{
-    ByteLink, ByteSink, ByteSource, Bytes, Clock, List, ListClock, NoMemory, SinkFault,
-};
+use lei_outside::{Clock, SinkFault};
+use lei_values::{Bytes, List, NoMemory};
+use memory_devices::{ByteLink, ByteSink, ByteSource, ListClock};
 use request_loop::{Answers, Duplex, Ended, Framing, Front, Intake, Want, Wire, send_piece, serve};
 use std::alloc::Global;
 use std::test::Fail;

@@ -1,6 +1,6 @@
 //! What is sent, with what comes back for it.
 use crate::http::bytes_of;
-use lei_outside::{Bytes, List, NoMemory};
+use lei_values::{Bytes, List, NoMemory};
 use std::alloc::Global;
 
 /// What is sent, and what comes back, in the letters of [`bytes_of`].

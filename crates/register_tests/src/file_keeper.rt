@@ -3,7 +3,8 @@
 //! keeper each function with a call took half a minute to prove.
 use crate::batches::is_batch;
 use keeper_sqlite::SqliteKeeper;
-use lei_outside::{Batch, Bytes, KeepFault, Keeper, KeptCell, KeptEntry, List, NoMemory, Shared};
+use lei_keeper::{KeepFault, Keeper};
+use lei_values::{Batch, Bytes, KeptCell, KeptEntry, List, NoMemory, Shared};
 use std::alloc::Global;
 use std::test::Fail;
 

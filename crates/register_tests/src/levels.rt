@@ -5,8 +5,8 @@ ghost use Rattle.lei_records.specs.declared.view.CellKey.{CellKey};
 ghost use Rattle.register_tests.specs.Webs.{named_at};
 
 use lei_code::{Lei, check_digits};
-use lei_outside::NoMemory;
 use lei_records::{CellKey, Seen, Successors};
+use lei_values::NoMemory;
 use std::alloc::Global;
 use std::test::Fail;
 use successor_rules::{Branches, Walked, spread_from};

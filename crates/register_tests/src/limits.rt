@@ -3,9 +3,11 @@ ghost use Rattle.std.specs.Prelude.{◌≡◌, IfSome};
 ghost use Rattle.register_words.specs.Limits.{AreLimits};
 
 use lei_code::Lei;
+use lei_keeper::Keeper;
 use lei_office::{Call, Limits, Office, Reply, Request, is_upload_number};
-use lei_outside::{Keeper, NoMemory, Shared, SureKeeper};
 use lei_shapes::Moment;
+use lei_values::{NoMemory, Shared};
+use memory_devices::SureKeeper;
 use std::alloc::Global;
 use std::test::Fail;
 use std::thread::Threads;

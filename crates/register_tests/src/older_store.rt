@@ -7,9 +7,9 @@ use crate::sqlite_keeper::{
 };
 use crate::transfer::{acknowledged_count, first_lines, replies};
 use keeper_sqlite::SqliteKeeper;
-use lei_outside::{
-    Bytes, KeepFault, Keeper, KeptCell, KeptEntry, List, NoMemory, Shared, SureKeeper,
-};
+use lei_keeper::{KeepFault, Keeper};
+use lei_values::{Bytes, KeptCell, KeptEntry, List, NoMemory, Shared};
+use memory_devices::SureKeeper;
 use register_words::ExitStatus;
 use sqlite::types::ValueRef;
 use sqlite::{Alter, Connection, Error, FileStore, MemStore};

@@ -1,11 +1,10 @@
 //! Runs of the program over a source or a sink that fails, at each of its calls in turn, and over an endless input.
 use crate::exchanges::{Exchange, MOST, all_sent, only, reads_of, replies_within, whole_replies};
 use crate::limits::MOMENT;
-use lei_outside::{
-    ByteSink, ByteSource, Bytes, Clock, Failed, NoMemory, Sink, Source, SureKeeper, SureSink,
-    SureSource,
-};
+use lei_outside::{Clock, Failed, Sink, Source};
+use lei_values::{Bytes, NoMemory};
 use leireg_run::{no_file, run};
+use memory_devices::{ByteSink, ByteSource, SureKeeper, SureSink, SureSource};
 use register_words::ExitStatus;
 use std::alloc::Global;
 use std::test::Fail;

@@ -3,10 +3,11 @@
 use crate::limits::{ISSUER, TWO_RECORDS};
 use crate::runs::words;
 use keeper_sqlite::SqliteKeeper;
-use lei_outside::{
-    Bytes, Keeper, List, ListClock, NoMemory, Sink, SureKeeper, SureSink, SureSource,
-};
+use lei_keeper::Keeper;
+use lei_outside::Sink;
+use lei_values::{Bytes, List, NoMemory};
 use leireg_run::{no_file, run};
+use memory_devices::{ListClock, SureKeeper, SureSink, SureSource};
 use register_words::ExitStatus;
 use std::alloc::{AllocError, Global};
 use std::test::Fail;

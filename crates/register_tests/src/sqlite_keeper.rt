@@ -2,7 +2,8 @@
 //! it refuses.
 use crate::transfer::{Course, transfer};
 use keeper_sqlite::SqliteKeeper;
-use lei_outside::{Keeper, NoMemory};
+use lei_keeper::Keeper;
+use lei_values::NoMemory;
 use register_words::ExitStatus;
 use sqlite::{Alter, Connection, FileStore};
 use sqlite_disk::{Crash, Disk, Files, Fuse, Memory};

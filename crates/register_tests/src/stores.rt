@@ -2,11 +2,11 @@
 //! or the cell that was changed is reported.
 use crate::limits::{ISSUER, MOMENT, TWO_RECORDS};
 use crate::runs::words;
-use lei_outside::{
-    Bytes, Clock, KeepFault, Keeper, KeptCell, KeptEntry, List, MapKeeper, NoMemory, Shared,
-    SureSink, SureSource, may_be_kept,
-};
+use lei_keeper::{KeepFault, Keeper};
+use lei_outside::Clock;
+use lei_values::{Bytes, KeptCell, KeptEntry, List, NoMemory, Shared};
 use leireg_run::{no_file, run};
+use memory_devices::{MapKeeper, SureSink, SureSource, may_be_kept};
 use std::alloc::{AllocError, Global};
 use std::test::Fail;
 use std::thread::Threads;

@@ -1,8 +1,11 @@
 //! A record that moves from one issuer to another, as a session over any keeper.
 use crate::runs::words;
 use crate::stores::Still;
-use lei_outside::{Bytes, Keeper, NoMemory, Sink, SureSink, SureSource};
+use lei_keeper::Keeper;
+use lei_outside::Sink;
+use lei_values::{Bytes, NoMemory};
 use leireg_run::{no_file, run};
+use memory_devices::{SureSink, SureSource};
 use std::alloc::Global;
 use std::thread::Threads;
 

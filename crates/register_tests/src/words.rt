@@ -1,5 +1,5 @@
 // What words ask a server to do.
-use lei_outside::NoMemory;
+use lei_values::NoMemory;
 use program_words::{Command, WordsFault, wanted_run};
 use std::alloc::Global;
 use std::test::Fail;

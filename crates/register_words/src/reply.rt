@@ -2,7 +2,7 @@
 ghost use Rattle.std.specs.Prelude.{◌≡◌, Some};
 
 use crate::malformed::Malformed;
-use lei_outside::Bytes;
+use lei_values::Bytes;
 use std::fmt;
 
 /// The form of a reply's text.

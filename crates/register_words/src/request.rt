@@ -7,7 +7,7 @@ use crate::reply::Refusal;
 use crate::sheets::{Form, Sheet};
 use crate::words::MAX_NUMBER;
 use lei_code::Lei;
-use lei_outside::Shared;
+use lei_values::Shared;
 
 /// Whether an upload, or a publication, may have this number.
 pub fn is_upload_number(number: u32) -> bool

@@ -1,6 +1,6 @@
 -- Devices whose last call failed.
 use Rattle.std.proofs.Common.{◌≡◌, ℕ, ◌≤◌, List, Option, Result, Ok, Err, OnErr, sym, ap, ◌∙◌, subst}
-use Rattle.lei_outside.specs.Count.{Rose}
+use Rattle.lei_values.specs.Count.{Rose}
 use Rattle.lei_outside.specs.Faults.{FailsLast}
 use Rattle.lei_outside.specs.Links.{LinkTold, link_told}
 use Rattle.lei_outside.specs.Told.{Reads}

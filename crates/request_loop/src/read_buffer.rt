@@ -6,7 +6,8 @@ ghost use Rattle.lei_outside.specs.Told.{Loses};
 ghost use Rattle.request_loop.specs.ReadBuffers.{Fills};
 
 use crate::wire::Wire;
-use lei_outside::{Failed, NoMemory};
+use lei_outside::Failed;
+use lei_values::NoMemory;
 use std::alloc::Global;
 use std::marker::Model;
 

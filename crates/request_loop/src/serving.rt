@@ -1,6 +1,6 @@
 //! The loop that serves a session.
 ghost use Rattle.std.specs.Prelude.{◌≡◌, ◌<◌, ℕ, List, [], Some};
-ghost use Rattle.lei_outside.specs.Count.{Rose};
+ghost use Rattle.lei_values.specs.Count.{Rose};
 ghost use Rattle.lei_outside.specs.Links.{link_told};
 ghost use Rattle.request_loop.specs.Devices.{FailsIf};
 ghost use Rattle.request_loop.specs.Frames.{Fits};

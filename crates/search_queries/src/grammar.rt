@@ -4,7 +4,7 @@ ghost use Rattle.query_reading.specs.Meanings.{IsWholeQuery};
 ghost use Rattle.search_queries.specs.Grammar.{find_of, search_says_alone, search_says_with, take_of, utf8_in};
 
 use crate::page::Page;
-use lei_outside::{NoMemory, Text};
+use lei_values::{NoMemory, Text};
 use line_reading::requests::cut_first_word;
 use query_reading::{Grammar, LineMeaning, QueryRefusal};
 use register_words::number_within;

@@ -10,7 +10,8 @@ ghost use Rattle.search_queries.specs.Searches.{SearchState, find_reply, state_o
 use crate::grammar::FindQuery;
 use crate::texts::{ROWS_ROOM, found_text, rows_text};
 use copy_forms::{CopyRead, DeltaRead, Form, FormFault, Sheet, read_delta};
-use lei_outside::{Clock, NoMemory};
+use lei_outside::Clock;
+use lei_values::NoMemory;
 use name_search::{FindFault, Index, TakeFault};
 use query_reading::{QueryAsked, QueryRefusal, QueryReply};
 use request_loop::Answers;

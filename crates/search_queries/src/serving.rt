@@ -1,6 +1,6 @@
 //! A search that is served.
 ghost use Rattle.std.specs.Prelude.{◌≡◌, ◌<◌, ℕ, List, [], Some};
-ghost use Rattle.lei_outside.specs.Count.{Rose};
+ghost use Rattle.lei_values.specs.Count.{Rose};
 ghost use Rattle.lei_outside.specs.Links.{link_told};
 ghost use Rattle.query_reading.specs.QueryFrames.{HoldsQuery};
 ghost use Rattle.request_loop.specs.Devices.{FailsIf};

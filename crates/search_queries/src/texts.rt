@@ -4,7 +4,7 @@ ghost use Rattle.serde_json.specs.View.{items_view, view};
 ghost use Rattle.serde_json.specs.Written.{compact_text};
 ghost use Rattle.search_queries.specs.Answers.{found_answer, found_value, name_answer, name_items, rows_text};
 
-use lei_outside::{Bytes, NoMemory, Text};
+use lei_values::{Bytes, NoMemory, Text};
 use name_search::Found;
 use serde_json::{Value, json};
 use std::alloc::Global;

@@ -3,8 +3,8 @@ use Rattle.std.specs.Prelude.{◌≡◌, ◌<◌, ◌^◌, pos, [], ◌∷◌}
 use Rattle.sqlite_value.specs.declared.value.Value.TheVariants.{Int, Text, Blob}
 use Rattle.sqlite_value.specs.Order.{Row}
 use Rattle.sqlite.specs.Values.{or_null}
-use Rattle.lei_outside.specs.declared.entry.KeptEntry.{KeptEntry}
-use Rattle.lei_outside.specs.declared.keeper.KeptCell.{KeptCell}
+use Rattle.lei_values.specs.declared.entry.KeptEntry.{KeptEntry}
+use Rattle.lei_values.specs.declared.cell.KeptCell.{KeptCell}
 use Rattle.store_statements.specs.Names.{lei_of, rest_of}
 
 -- The values of an entry in the order of the columns: seq, kind, office, number, moment, rules, body and answer. The

@@ -10,9 +10,9 @@ use Rattle.sqlite.specs.Effect.{Database}
 use Rattle.sqlite.specs.Listing.{understood}
 use Rattle.sqlite.specs.State.{State, CommitsShowing, FailsToQuery, Survives, ExecutesInside, HasCleanDisk, IsUnchanged, KeepsCommit, Shown}
 use Rattle.sqlite.proofs.Callers.{IsPlain, reads_as}
-use Rattle.lei_outside.specs.Keeping.{KeptTables, cells_between, entries_between, put_cell}
-use Rattle.lei_outside.specs.declared.entry.KeptEntry.{KeptEntry}
-use Rattle.lei_outside.specs.declared.keeper.KeptCell.{KeptCell}
+use Rattle.lei_values.specs.KeptTables.{KeptTables, cells_between, entries_between, put_cell}
+use Rattle.lei_values.specs.declared.entry.KeptEntry.{KeptEntry}
+use Rattle.lei_values.specs.declared.cell.KeptCell.{KeptCell}
 use Rattle.store_statements.specs.Rows.{cell_row, entry_row}
 use Rattle.store_statements.specs.Schemas.{whole_schema}
 use Rattle.store_statements.specs.Texts.{cells_text, entries_text, insert_text, last_text, put_text}

@@ -13,7 +13,7 @@ use Rattle.sqlite_trees.proofs.ListLemmas.{IsPermutation-filter, all-filter, asc
 use Rattle.sqlite_rules.specs.Edit.{id_in}
 use Rattle.sqlite_sql.specs.Query.{IsAnswer, Output, output_cmp}
 use Rattle.sqlite_sql.specs.Program.{overlay}
-use Rattle.lei_outside.specs.Keeping.{cell_at}
+use Rattle.lei_values.specs.KeptTables.{cell_at}
 use Rattle.store_statements.specs.Commands.{cells_query, no_limit, within}
 use Rattle.store_statements.specs.Rows.{cell_row}
 use Rattle.store_statements.specs.Names.{lei_of, rest_of}

@@ -39,8 +39,8 @@ use Rattle.sqlite_schema.specs.declared.schema.Keys.{Keys}
 use Rattle.sqlite.specs.State.{State, Executes, mode_of}
 use Rattle.sqlite.specs.Listing.{understood}
 use Rattle.sqlite.proofs.Callers.{one_step, runs_as, statement_of}
-use Rattle.lei_outside.specs.Keeping.{CellPlace, cell_place}
-use Rattle.lei_outside.specs.declared.keeper.KeptCell.{KeptCell}
+use Rattle.lei_values.specs.KeptTables.{CellPlace, cell_place}
+use Rattle.lei_values.specs.declared.cell.KeptCell.{KeptCell}
 use Rattle.store_statements.specs.Commands.{no_limit, plain_query, put_clause, put_query, put_terms}
 use Rattle.store_statements.specs.Rows.{cell_row}
 use Rattle.store_statements.specs.Names.{lei_of, rest_of}
@@ -54,7 +54,7 @@ use Rattle.store_tables.proofs.EntryWriting.{not_taken}
 use Rattle.store_tables.proofs.NameLemmas.{joined_again}
 use Rattle.store_tables.proofs.PlaceLemmas.{Apart, agree2_is, by_both, none_true, place, same_place}
 use Rattle.store_tables.proofs.QueryLemmas.{answer_is, passes, shown}
-use Rattle.lei_outside.proofs.CellLemmas.{tied}
+use Rattle.lei_values.proofs.Places.{tied}
 use Rattle.sqlite_rules.specs.Calls.{ids_of}
 use Rattle.store_tables.proofs.RowLemmas.{AreCells, IsCell}
 use Rattle.store_tables.proofs.SameLemmas.{left_of}

@@ -7,8 +7,8 @@ use Rattle.sqlite_catalog.specs.Listing.{IsSound}
 use Rattle.sqlite_catalog.proofs.ReadLemmas.{lists_once}
 use Rattle.sqlite.specs.Effect.{Database}
 use Rattle.sqlite.specs.State.{State}
-use Rattle.lei_outside.specs.Keeping.{KeptTables, with_batch}
-use Rattle.lei_outside.specs.declared.keeper.Batch.{Batch}
+use Rattle.lei_values.specs.KeptTables.{KeptTables, with_batch}
+use Rattle.lei_values.specs.declared.batch.Batch.{Batch}
 use Rattle.store_statements.specs.Schemas.{whole_schema}
 use Rattle.store_tables.specs.Calls.{HasNextNumber, KeepsBatch, TellsFirst, TellsTables}
 use Rattle.store_tables.specs.Crash.{MayBeFound}

@@ -14,10 +14,10 @@ use Rattle.sqlite_sql.specs.declared.ops.CompareOp.TheVariants.{Gt, Le}
 use Rattle.sqlite_sql.specs.Ops.{binary, is_true}
 use Rattle.sqlite_sql.specs.Query.{IsAnswer, Output, output_cmp}
 use Rattle.sqlite_sql.specs.Program.{overlay}
-use Rattle.lei_outside.specs.declared.entry.KeptEntry.{KeptEntry}
+use Rattle.lei_values.specs.declared.entry.KeptEntry.{KeptEntry}
 use Rattle.store_statements.specs.Commands.{entries_query, no_limit, within}
 use Rattle.store_statements.specs.Rows.{entry_row}
-use Rattle.lei_outside.specs.declared.keeper.KeptCell.{KeptCell}
+use Rattle.lei_values.specs.declared.cell.KeptCell.{KeptCell}
 use Rattle.store_tables.specs.Stored.{cell_fits, entry_fits, entry_of, is_entry_number}
 use Rattle.store_tables.proofs.QueryLemmas.{answer_is, passes, shown}
 use Rattle.store_tables.proofs.RowLemmas.{AreEntries, IsEntry}

@@ -13,7 +13,7 @@ use Rattle.sqlite.specs.Rows.{Written}
 use Rattle.sqlite.specs.State.{State, Executes, mode_of}
 use Rattle.sqlite.specs.Listing.{understood}
 use Rattle.sqlite.proofs.Callers.{one_step, runs_as, statement_of}
-use Rattle.lei_outside.specs.declared.entry.KeptEntry.{KeptEntry}
+use Rattle.lei_values.specs.declared.entry.KeptEntry.{KeptEntry}
 use Rattle.store_statements.specs.Commands.{insert_terms}
 use Rattle.store_statements.specs.Rows.{entry_row}
 use Rattle.store_statements.specs.Schemas.{whole_schema, entry_table}

@@ -9,8 +9,8 @@ use Rattle.sqlite_value.specs.declared.value.Value.TheVariants.{Int}
 use Rattle.sqlite_value.specs.Order.{Row, column, value_cmp}
 use Rattle.sqlite_rules.specs.Edit.{id_in}
 use Rattle.sqlite_trees.specs.Tree.{rowid}
-use Rattle.lei_outside.specs.Keeping.{KeptTables, cell_content, cell_place}
-use Rattle.lei_outside.specs.declared.keeper.KeptCell.{KeptCell}
+use Rattle.lei_values.specs.KeptTables.{KeptTables, cell_content, cell_place}
+use Rattle.lei_values.specs.declared.cell.KeptCell.{KeptCell}
 use Rattle.store_statements.specs.Names.{AreNameParts, lei_of, rest_of}
 use Rattle.store_tables.specs.Forms.{first_store, second_store}
 use Rattle.store_tables.specs.Same.{same_row}

@@ -12,9 +12,9 @@ use Rattle.sqlite_rules.specs.Edit.{id_in}
 use Rattle.sqlite_trees.specs.Tree.{IsTable}
 use Rattle.sqlite.specs.Effect.{Database}
 use Rattle.sqlite.specs.State.{State}
-use Rattle.lei_outside.specs.Keeping.{CellContent, CellPlace, CellsByPlace, KeptTables, cell_content, put_cell, put_cells}
-use Rattle.lei_outside.specs.declared.keeper.KeptCell.{KeptCell}
-use Rattle.lei_outside.proofs.CellLemmas.{tied}
+use Rattle.lei_values.specs.KeptTables.{CellContent, CellPlace, CellsByPlace, KeptTables, cell_content, put_cell, put_cells}
+use Rattle.lei_values.specs.declared.cell.KeptCell.{KeptCell}
+use Rattle.lei_values.proofs.Places.{tied}
 use Rattle.store_tables.specs.Calls.{AreFirst, Carried, Carries, ChangesTables, Clears, Forms, HoldsTables, Moves, MovesPage, ReadsPage, TellsFirst, last_id, with_cells}
 use Rattle.store_tables.specs.Stored.{cell_in_row, form_1, form_2}
 use Rattle.store_tables.specs.Told.{place_and_content}

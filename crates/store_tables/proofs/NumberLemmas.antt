@@ -12,7 +12,7 @@ use Rattle.sqlite_value.specs.Order.{Row, value_cmp}
 use Rattle.sqlite_value.proofs.OrderLemmas.{value_cmp-Int}
 use Rattle.sqlite_trees.specs.Tree.{IsAscending, IsTable, rowid}
 use Rattle.sqlite_trees.proofs.ListLemmas.{all-append}
-use Rattle.lei_outside.specs.Keeping.{AreKept, CellContent, CellPlace, IsEntryNumber, KeptTables, RiseFrom, last_number}
+use Rattle.lei_values.specs.KeptTables.{AreKept, CellContent, CellPlace, IsEntryNumber, KeptTables, RiseFrom, last_number}
 use Rattle.store_tables.specs.Stored.{CellForm, entry_of, form_1, form_2}
 use Rattle.std.proofs.Common.{option_and_then}
 use Rattle.sqlite_trees.specs.Tree.{Trees}

@@ -20,8 +20,8 @@ use Rattle.sqlite_sql.specs.Ops.{binary}
 use Rattle.sqlite_schema.specs.Rules.{agree, clashes, differ, equal}
 use Rattle.sqlite_rules.specs.Lists.{Has}
 use Rattle.sqlite_rules.proofs.ListLemmas.{some_from}
-use Rattle.lei_outside.specs.Keeping.{CellContent, CellPlace, cell_place}
-use Rattle.lei_outside.specs.declared.keeper.KeptCell.{KeptCell}
+use Rattle.lei_values.specs.KeptTables.{CellContent, CellPlace, cell_place}
+use Rattle.lei_values.specs.declared.cell.KeptCell.{KeptCell}
 use Rattle.store_tables.specs.Stored.{CellForm, cell2_of, cell_in_row, form_1, form_2, stored_cell, stored_cell2}
 use Rattle.store_tables.specs.Told.{place_and_content}
 use Rattle.sqlite_rules.specs.Edit.{id_in}

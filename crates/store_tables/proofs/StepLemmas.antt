@@ -16,10 +16,10 @@ use Rattle.sqlite_schema.specs.Rules.{Keeps}
 use Rattle.sqlite_rules.specs.Edit.{is_taken}
 use Rattle.sqlite_rules.proofs.ListLemmas.{all_has}
 use Rattle.sqlite.specs.Effect.{Database, IsDatabase}
-use Rattle.lei_outside.specs.Keeping.{CellContent, CellPlace, KeptTables, cell_content, cell_place, last_number, put_cell}
-use Rattle.lei_outside.specs.declared.entry.KeptEntry.{KeptEntry}
-use Rattle.lei_outside.specs.declared.keeper.KeptCell.{KeptCell}
-use Rattle.lei_outside.proofs.CellLemmas.{itself, tied}
+use Rattle.lei_values.specs.KeptTables.{CellContent, CellPlace, KeptTables, cell_content, cell_place, last_number, put_cell}
+use Rattle.lei_values.specs.declared.entry.KeptEntry.{KeptEntry}
+use Rattle.lei_values.specs.declared.cell.KeptCell.{KeptCell}
+use Rattle.lei_values.proofs.Places.{itself, tied}
 use Rattle.store_statements.specs.Schemas.{whole_schema}
 use Rattle.store_tables.specs.Calls.{HoldsTables, tables_with_cell, tables_with_entry}
 use Rattle.store_tables.specs.Stored.{cell_fits, entry_fits, entry_of, form_1, form_2, stored_cell2, stored_entry}

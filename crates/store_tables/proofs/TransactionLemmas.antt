@@ -5,7 +5,7 @@ use Rattle.sqlite.specs.declared.error.Error.{Error}
 use Rattle.sqlite.specs.Effect.{Database}
 use Rattle.sqlite.specs.Steps.{FailsToCommit}
 use Rattle.sqlite.specs.State.{State, HasCleanDisk, IsRolledBack, KeepsCommit, Survives}
-use Rattle.lei_outside.specs.Keeping.{KeptTables}
+use Rattle.lei_values.specs.KeptTables.{KeptTables}
 use Rattle.store_tables.specs.Calls.{IsInside, IsMade, IsSeen, IsSteady, IsUndone}
 use Rattle.store_tables.specs.Crash.{MayBeFound}
 use Rattle.store_tables.specs.Told.{told_in_trees}

@@ -4,7 +4,7 @@ use Rattle.sqlite_trees.specs.Tree.{Trees}
 use Rattle.sqlite_schema.specs.declared.schema.Schema.{Schema}
 use Rattle.sqlite_catalog.specs.Listing.{IsSound}
 use Rattle.sqlite.specs.State.{State, HasCleanDisk}
-use Rattle.lei_outside.specs.Keeping.{KeptTables}
+use Rattle.lei_values.specs.KeptTables.{KeptTables}
 use Rattle.store_tables.specs.Told.{told_in, told_in_trees}
 
 -- What an open would tell of trees that a crash may leave, by the schema listed in them.

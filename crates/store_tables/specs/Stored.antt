@@ -5,8 +5,8 @@ use Rattle.sqlite_value.specs.declared.value.Value.TheVariants.{Null, Int, Text,
 use Rattle.sqlite_value.specs.Order.{Row, bytes, column}
 use Rattle.sqlite_rules.specs.Edit.{id_in}
 use Rattle.sqlite.specs.Values.{or_null}
-use Rattle.lei_outside.specs.declared.entry.KeptEntry.{KeptEntry}
-use Rattle.lei_outside.specs.declared.keeper.KeptCell.{KeptCell}
+use Rattle.lei_values.specs.declared.entry.KeptEntry.{KeptEntry}
+use Rattle.lei_values.specs.declared.cell.KeptCell.{KeptCell}
 use Rattle.store_statements.specs.Names.{lei_of, rest_of}
 use Rattle.store_tables.specs.Same.{same_row}
 

@@ -7,7 +7,7 @@ use Rattle.sqlite_value.specs.Order.{Row, value_cmp}
 use Rattle.sqlite_trees.specs.Tree.{Trees, rowid}
 use Rattle.sqlite_schema.specs.declared.schema.Schema.{Schema}
 use Rattle.sqlite.specs.State.{State}
-use Rattle.lei_outside.specs.Keeping.{CellContent, CellPlace, KeptTables, cell_content, cell_place}
+use Rattle.lei_values.specs.KeptTables.{CellContent, CellPlace, KeptTables, cell_content, cell_place}
 use Rattle.store_statements.specs.Schemas.{both_schema, entry_schema, no_schema, store_schema, whole_schema}
 use Rattle.store_tables.specs.Same.{same_row, same_schema}
 use Rattle.store_tables.specs.Stored.{CellForm, entry_of, form_1, form_2, form_row, is_cell, is_entry, second_row}

@@ -2,7 +2,7 @@
 ghost use Rattle.std.specs.Prelude.{◌≡◌, Some};
 ghost use Rattle.upload_format.specs.declared.fault.UploadFault.TheVariants as faults;
 
-use lei_outside::NoMemory;
+use lei_values::NoMemory;
 use register_words::Malformed;
 use std::alloc::{AllocError, AllocFailed};
 use std::error::Error;

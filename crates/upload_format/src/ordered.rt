@@ -14,8 +14,8 @@ ghost use Rattle.upload_format.specs.Ordered.{AddsList, AreFields, AreListed, Ar
 use crate::items::raw_item;
 use crate::threads::map_items;
 use json::{Element, Error, Items, Members, Scratch, Tape};
-use lei_outside::NoMemory;
 use lei_records::{Fields, Kind, Readied, ready_by};
+use lei_values::NoMemory;
 use std::alloc::Global;
 use std::thread::Threads;
 

@@ -4,8 +4,8 @@ ghost use Rattle.lei_records.specs.Items.{ready as ready_of};
 ghost use Rattle.lei_records.specs.RuleNumbers.{rules_of};
 
 use crate::threads::map_items;
-use lei_outside::NoMemory;
 use lei_records::{RawItem, Readied, ready_by};
+use lei_values::NoMemory;
 use std::alloc::Global;
 use std::thread::Threads;
 

@@ -9,7 +9,7 @@ use Rattle.std.specs.Vec.{vec_len, vec_capacity}
 use Rattle.std.proofs.lemmas.Option.{same_Some}
 use Rattle.std.proofs.lemmas.Slice.Eq.{bytes_eq-Decides}
 use Rattle.lei_code.specs.Code.{IsValid}
-use Rattle.lei_outside.specs.declared.entry.KeptEntry.{KeptEntry}
+use Rattle.lei_values.specs.declared.entry.KeptEntry.{KeptEntry}
 use Rattle.upload_ledger.specs.declared.index.IssuerPlaces.{IssuerPlaces}
 use Rattle.upload_ledger.specs.History.{History, is_accreditation_of, is_upload_of}
 use Rattle.upload_ledger.specs.Index.{AreOf, ArePlaces, HasRoomForIssuer, Index, IsFirstPlace, IsIndex, IsSameIndex, accreditation_place, places_of, uploads_in}

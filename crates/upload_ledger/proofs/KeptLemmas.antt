@@ -3,7 +3,7 @@ use Rattle.std.proofs.Common.{◌≡◌, ℕ, ◌+◌, ◌≤◌, List, [], ◌�
 use Rattle.std.specs.Vec.{vec_len, vec_capacity}
 use Rattle.std.proofs.lemmas.List.Elements.{filter-append}
 use Rattle.std.proofs.lemmas.List.Sums.{sum_by-append, length-filter, count_by-le-length}
-use Rattle.lei_outside.specs.declared.entry.KeptEntry.{KeptEntry}
+use Rattle.lei_values.specs.declared.entry.KeptEntry.{KeptEntry}
 use Rattle.upload_ledger.specs.declared.ledger.Ledger.TheInside.{Inside}
 use Rattle.upload_ledger.specs.History.{History, is_accreditation, is_publication, kept_bytes}
 use Rattle.upload_ledger.specs.Index.{ArePlaces, IsIndex, IsSameIndex}

@@ -6,7 +6,7 @@ use Rattle.std.specs.Cmp.Lexicographic.{slice_cmp}
 use Rattle.std.specs.Ordering.{nat_cmp}
 use Rattle.lei_code.specs.Code.{IsValid}
 use Rattle.lei_code.specs.Texts.{Lei}
-use Rattle.lei_outside.specs.declared.entry.KeptEntry.{KeptEntry}
+use Rattle.lei_values.specs.declared.entry.KeptEntry.{KeptEntry}
 use Rattle.upload_ledger.specs.declared.index.IssuerPlaces.{IssuerPlaces}
 use Rattle.upload_ledger.specs.History.{History, is_accreditation_of, is_upload_of}
 

@@ -2,13 +2,13 @@
 ghost use Rattle.std.specs.Prelude.{◌≡◌, ◌<◌, ◌++◌, ◌∷◌, [], Bool, Some, None, OnOk, if◌then◌else◌, ◌==◌, option_map, find, filter, vec_len, vec_capacity};
 ghost use Rattle.std.specs.Option.{option_or};
 ghost use Rattle.lei_code.specs.Code.{IsValid};
-ghost use Rattle.lei_outside.specs.declared.entry.KeptEntry.{KeptEntry};
+ghost use Rattle.lei_values.specs.declared.entry.KeptEntry.{KeptEntry};
 ghost use Rattle.upload_ledger.specs.History.{entry_numbered, is_accreditation_of};
 ghost use Rattle.upload_ledger.specs.Index.{ArePlaces, HasRoomForIssuer, IsIndex, IsSameIndex, accreditation_place, places_of, uploads_in};
 
 use crate::kinds::{ACCREDIT, UPLOAD};
 use lei_code::Lei;
-use lei_outside::{KeptEntry, NoMemory};
+use lei_values::{KeptEntry, NoMemory};
 use std::alloc::Global;
 use std::collections::BTreeMap;
 

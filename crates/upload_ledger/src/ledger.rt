@@ -10,7 +10,7 @@ use crate::kinds::{ACCREDIT, PUBLISH};
 use crate::place::Place;
 use crate::totals::Totals;
 use lei_code::Lei;
-use lei_outside::{Bytes, KeptEntry, NoMemory};
+use lei_values::{Bytes, KeptEntry, NoMemory};
 use std::alloc::Global;
 use std::collections::BTreeMap;
 use std::marker::Model;

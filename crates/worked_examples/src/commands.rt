@@ -1,6 +1,6 @@
 //! The commands of the register over memory alone.
-use lei_outside::SureKeeper;
 use leireg_commands::{run_command, tell};
+use memory_devices::SureKeeper;
 use program_words::{WordsFault, wanted_run};
 use register_words::ExitStatus;
 use std::mem::forget;

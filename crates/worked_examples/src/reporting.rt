@@ -4,7 +4,7 @@ ghost use Rattle.std.specs.Prelude.{◌≤◌};
 use crate::stores::Store;
 use crate::trial::run_in_memory;
 use example_sessions::{Came, Session, Trial, is_wanted};
-use lei_outside::KeepFault;
+use lei_keeper::KeepFault;
 use program_words::help_of;
 use std::alloc::Global;
 use std::io;

@@ -1,8 +1,8 @@
 //! Stores in memory, which the runs of a session leave to later ones.
 use example_sessions::{Change, RulesChange, Run};
-use lei_outside::{
-    Bytes, KeepFault, Keeper, KeptCell, KeptEntry, List, MapKeeper, NoMemory, Text, may_be_kept,
-};
+use lei_keeper::{KeepFault, Keeper};
+use lei_values::{Bytes, KeptCell, KeptEntry, List, NoMemory, Text};
+use memory_devices::{MapKeeper, may_be_kept};
 use program_words::wanted_run;
 use std::alloc::Global;
 

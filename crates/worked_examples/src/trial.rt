@@ -3,8 +3,11 @@ ghost use Rattle.std.specs.Prelude.{◌≤◌};
 
 use crate::stores::{Store, keeper_of, path_of};
 use example_sessions::{Came, Run};
-use lei_outside::{Bytes, KeepFault, Keeper, ListClock, NoMemory, Sink, SureSink, SureSource};
+use lei_keeper::{KeepFault, Keeper};
+use lei_outside::Sink;
+use lei_values::{Bytes, NoMemory};
 use leireg_run::run;
+use memory_devices::{ListClock, SureSink, SureSource};
 use std::alloc::Global;
 use std::thread::Threads;
 

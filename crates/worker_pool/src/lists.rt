@@ -4,7 +4,7 @@ ghost use Rattle.std.specs.Fn.{FnReturnsAt};
 ghost use Rattle.std.specs.List.{AllZip};
 
 use crate::steps::Steps;
-use lei_outside::NoMemory;
+use lei_values::NoMemory;
 use rayon::prelude::*;
 use std::alloc::Global;
 use std::sync::ledger::Ledger;

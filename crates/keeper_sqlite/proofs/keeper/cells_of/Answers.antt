@@ -1,5 +1,5 @@
 use Rattle.std.proofs.Common.{subst, sym}
-use Rattle.lei_outside.specs.Keeping.{LeavesNoMore}
+use Rattle.lei_keeper.specs.Keeping.{LeavesNoMore}
 use Rattle.keeper_sqlite.specs.Keepers.{leaves_from, leaves_of}
 use Rattle.keeper_sqlite.proofs.keeper.cells_of.Goals as goal
 

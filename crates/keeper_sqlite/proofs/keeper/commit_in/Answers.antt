@@ -1,5 +1,5 @@
 use Rattle.std.proofs.Common.{subst, sym}
-use Rattle.lei_outside.specs.Keeping.{CommitLeaves}
+use Rattle.lei_keeper.specs.Keeping.{CommitLeaves}
 use Rattle.keeper_sqlite.specs.Keepers.{leaves_from, leaves_of, tables_in, tables_of}
 use Rattle.keeper_sqlite.proofs.keeper.commit_in.Goals as goal
 

@@ -7,7 +7,7 @@ use Rattle.register_history.proofs.Stored.{held-stands}
 use Rattle.lei_office.specs.Opening.{Compares}
 use Rattle.lei_office.proofs.ComparedPages.{all-agree, leaves-join, page-agrees, page-differs, stays-join, stays-told}
 use Rattle.register_history.proofs.Pages.{PagesAgree}
-use Rattle.lei_outside.specs.Keeping.{AreKept}
+use Rattle.lei_values.specs.KeptTables.{AreKept}
 use Rattle.lei_office.proofs.comparing.compare_cells.Goals as goal
 
 pub returns-in-Some-clause-compares : goal.returns-in-Some-clause-compares

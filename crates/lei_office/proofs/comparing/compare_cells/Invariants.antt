@@ -1,6 +1,6 @@
 use Rattle.std.proofs.Common.{◌≡◌}
 use Rattle.std.specs.Prelude.{IfSome}
-use Rattle.lei_outside.specs.Keeping.{LeavesNoMore, TablesStay}
+use Rattle.lei_keeper.specs.Keeping.{LeavesNoMore, TablesStay}
 use Rattle.register_history.specs.Register.{held_after}
 use Rattle.register_history.proofs.Pages.{PagesAgree}
 use Rattle.lei_office.proofs.comparing.compare_cells.Given as goal

@@ -1,6 +1,6 @@
 use Rattle.std.proofs.Common.{◌≡◌, ap, arith, refl, subst, sym, ◌∙◌}
 use Rattle.std.specs.Prelude.{IfSome}
-use Rattle.lei_outside.specs.Keeping.{entries_between}
+use Rattle.lei_values.specs.KeptTables.{entries_between}
 use Rattle.register_history.specs.Legal.{Legal}
 use Rattle.register_history.specs.State.{office_of}
 use Rattle.register_history.proofs.Histories.{Legal-opened}

@@ -1,6 +1,6 @@
 use Rattle.std.proofs.Common.{◌≡◌, ◌≤◌, ◌-◌}
 use Rattle.std.specs.Prelude.{IfSome}
-use Rattle.lei_outside.specs.Keeping.{LeavesNoMore, TablesStay}
+use Rattle.lei_keeper.specs.Keeping.{LeavesNoMore, TablesStay}
 use Rattle.register_history.specs.Legal.{Legal}
 use Rattle.lei_office.proofs.ReplayedPages.{Reached}
 use Rattle.lei_office.proofs.opening.replay_entries.Given as goal

@@ -1,6 +1,6 @@
 use Rattle.std.proofs.Common.{◌∙◌, sym}
 use Rattle.std.proofs.lemmas.Str.{IsCharBoundary-start}
-use Rattle.lei_outside.proofs.PieceLemmas.{AreEnds-boundary, AreEnds-rise, AreEnds-start, pieces-at}
+use Rattle.lei_values.proofs.PieceLemmas.{AreEnds-boundary, AreEnds-rise, AreEnds-start, pieces-at}
 use Rattle.lei_records.proofs.field_texts.piece_at.Goals as goal
 
 pub range-requires-clause-start_le_end : goal.range-requires-clause-start_le_end

@@ -1,5 +1,5 @@
 use Rattle.std.proofs.Common.{ℕ, refl, ◌∙◌, subst}
-use Rattle.lei_outside.specs.Count.{Rose}
+use Rattle.lei_values.specs.Count.{Rose}
 use Rattle.leireg_serve.proofs.Lines.{desk_begins, desk_closed, desk_failed, desk_goes}
 use Rattle.leireg_serve.proofs.desk.serve_desk.Goals as goal
 

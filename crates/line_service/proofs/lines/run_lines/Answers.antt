@@ -1,5 +1,6 @@
 use Rattle.std.proofs.Common.{ℕ, Option, ap, subst, sym}
-use Rattle.lei_outside.specs.Keeping.{KeptTables, TablesStay}
+use Rattle.lei_values.specs.KeptTables.{KeptTables}
+use Rattle.lei_keeper.specs.Keeping.{TablesStay}
 use Rattle.register_history.specs.Kept.{StaysUntold}
 use Rattle.register_words.specs.Limits.{standard}
 use Rattle.lei_office.specs.Offices.{FaultRose, IsRefused, keeper_back}

@@ -1,5 +1,5 @@
 use Rattle.std.proofs.Common.{◌∙◌, ap}
-use Rattle.lei_outside.specs.Memory.{tables_of}
+use Rattle.memory_devices.specs.Memory.{tables_of}
 use Rattle.register_demo.proofs.Opening.{begins, never_damaged}
 use Rattle.register_demo.proofs.whole.demo.Goals as goal
 

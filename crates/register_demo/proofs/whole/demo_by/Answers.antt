@@ -1,7 +1,7 @@
 use Rattle.std.proofs.Common.{subst}
 use Rattle.std.specs.Prelude.{IfOk, Result}
-use Rattle.lei_outside.specs.declared.faults.NoMemory.{NoMemory}
-use Rattle.lei_outside.specs.Memory.{tables_of}
+use Rattle.lei_values.specs.declared.no_memory.NoMemory.{NoMemory}
+use Rattle.memory_devices.specs.Memory.{tables_of}
 use Rattle.register_demo.specs.Session.{MakesRegister}
 use Rattle.register_demo.specs.declared.summary.Told.{Told}
 use Rattle.register_demo.proofs.Opening.{ends, summed}

@@ -1,6 +1,6 @@
 use Rattle.std.proofs.Common.{◌≤◌, ◌∷◌, [], arith, length-append}
-use Rattle.lei_outside.specs.Keeping.{with_batch}
-use Rattle.lei_outside.specs.declared.keeper.Batch.{Batch}
+use Rattle.lei_values.specs.KeptTables.{with_batch}
+use Rattle.lei_values.specs.declared.batch.Batch.{Batch}
 use Rattle.register_history.proofs.KeptLemmas.{becomes-untold, told-with, touched-batch}
 use Rattle.register_state.proofs.Crashing.{refused-leaves}
 use Rattle.register_state.proofs.keeping.keep.Goals as goal

@@ -1,5 +1,5 @@
 use Rattle.std.proofs.Common.{subst}
-use Rattle.lei_outside.specs.Keeping.{LeavesNoMore}
+use Rattle.lei_keeper.specs.Keeping.{LeavesNoMore}
 use Rattle.keeper_sqlite.specs.Keepers.{leaves_from}
 use Rattle.keeper_sqlite.proofs.keeper.SqliteKeeperKeeper.entries.Goals as goal
 

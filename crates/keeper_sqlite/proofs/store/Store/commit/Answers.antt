@@ -1,5 +1,6 @@
 use Rattle.std.proofs.Common.{sym, subst}
-use Rattle.lei_outside.specs.Keeping.{CommitLeaves, Commits, IsNextOf}
+use Rattle.lei_values.specs.KeptTables.{IsNextOf}
+use Rattle.lei_keeper.specs.Keeping.{CommitLeaves, Commits}
 use Rattle.sqlite.specs.Held.{state}
 use Rattle.keeper_sqlite.specs.Keepers.{leaves_of, leaves_since, tables_of, told_since}
 use Rattle.keeper_sqlite.proofs.SinceLemmas.{ends_commits, ends_leaves, ends_on}

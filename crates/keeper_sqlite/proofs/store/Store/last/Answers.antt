@@ -1,5 +1,6 @@
 use Rattle.std.proofs.Common.{subst}
-use Rattle.lei_outside.specs.Keeping.{AreKept, LeavesNoMore, TablesStay}
+use Rattle.lei_values.specs.KeptTables.{AreKept}
+use Rattle.lei_keeper.specs.Keeping.{LeavesNoMore, TablesStay}
 use Rattle.sqlite.specs.Held.{state}
 use Rattle.keeper_sqlite.specs.Keepers.{leaves_of, leaves_since, tables_of, told_since}
 use Rattle.store_tables.proofs.CallLemmas.{if_ok}

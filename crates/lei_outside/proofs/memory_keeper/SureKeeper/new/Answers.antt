@@ -1,5 +1,0 @@
-use Rattle.lei_outside.proofs.KeepingLemmas.{nothing-kept}
-use Rattle.lei_outside.proofs.memory_keeper.SureKeeper.new.Goals as goal
-
-pub invariant_of-result : goal.invariant_of-result
-invariant_of-result c = rw (c.new.ensures.items, c.new-2.ensures.items) nothing-kept

@@ -1,7 +1,0 @@
-use Rattle.std.proofs.Common.{◌≡◌, ◌++◌, drop}
-use Rattle.lei_outside.proofs.KeepingLemmas.{between}
-use Rattle.lei_outside.proofs.memory_keeper.SureKeeperKeeper.entries.Given as goal
-
--- what was copied, together with what is left to copy, is all that was requested
-abbrev pub invariant-loop-entry : goal.invariant-loop-entry
-invariant-loop-entry l = l.list.items ++ between l.after l.upto (drop l.entry-index l.entry-items) ≡ between l.after l.upto l.fn.self.entries

@@ -1,6 +1,0 @@
-use Rattle.std.proofs.Common.{◌↔◌, drop}
-use Rattle.lei_outside.specs.Memory.{AreOfEntries}
-use Rattle.lei_outside.proofs.memory_keeper.are_of_entries.Given as goal
-
-abbrev pub invariant-loop-cell : goal.invariant-loop-cell
-invariant-loop-cell l = AreOfEntries (drop l.cell-index l.cells) ↔ AreOfEntries l.cells

@@ -1,6 +1,0 @@
-use Rattle.std.proofs.Common.{rules}
-use Rattle.lei_outside.proofs.PieceLemmas.{length_pieces}
-use Rattle.lei_outside.proofs.texts.Texts.is_empty.Goals as goal
-
-pub returns : goal.returns
-returns c = search (rules, length_pieces)

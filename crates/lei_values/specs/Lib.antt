@@ -1,0 +1,3 @@
+pub mod Count
+pub mod Pieces
+pub mod KeptTables
