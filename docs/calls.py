@@ -9,7 +9,7 @@ that it could change leaves everything unchanged.
 
 usage: docs/calls.py          writes docs/CALLS.md
        docs/calls.py --check  writes nothing, and ends with status 1 if the page is stale
-Both end with status 1 if a clause that the page names doesn't exist.
+Both end with status 1 if a clause that the page names doesn't exist, or a crate, call or type that this script names.
 """
 import pathlib
 import re
@@ -283,6 +283,16 @@ def with_links(crate, text):
     return re.sub(r"\]\(([^)]+)\)", moved, text)
 
 
+def dead_names():
+    """What this script says of crates, calls and types that aren't there."""
+    there = [crate for crate in crates() if crate not in APART]
+    calls = {f"{crate}.{call.name}" for crate in there for call in calls_of(crate)}
+    types = {f"{crate}.{name}" for crate in crates() for name in variants(crate)}
+    yield from (f"there is no crate {name}" for name in sorted(APART - set(crates())))
+    yield from (f"there is no call {name}" for name in LEFT if name not in calls)
+    yield from (f"there is no type {name}" for name in OUTCOMES if name not in types)
+
+
 def main():
     if sys.argv[1:] not in ([], ["--check"]):
         print(__doc__, file=sys.stderr)
@@ -292,6 +302,7 @@ def main():
     known = {row for crate in crates() for row in readmes.rows_of(crate)}
     named = [(call, clause) for call, clauses in NAMED.findall(above) for clause in clauses.split(", ")]
     faults = [f"docs/CALLS.md: {call} has no clause {clause}" for call, clause in named if (call, clause) not in known]
+    faults += [f"docs/calls.py: {fault}" for fault in dead_names()]
     made = above + MARK + "\n" + "\n".join(tables()) + "\n"
     if sys.argv[1:]:
         faults += ["docs/CALLS.md is stale: run docs/calls.py"] * (made != page)

@@ -7,7 +7,8 @@ definition is reached if such a contract names it, or if the text of a reached d
 
 usage: docs/definitions.py          writes docs/DEFINITIONS.md
        docs/definitions.py --check  writes nothing, and ends with status 1 if the page is stale
-Both end with status 1 if a public definition has no comment, and name it.
+Both end with status 1 if a public definition has no comment, and name it. A page of fewer definitions than `LEAST` doesn't
+pass, and neither does a crate in `CALLS` that isn't there.
 """
 import pathlib
 import re
@@ -17,6 +18,7 @@ ROOT = pathlib.Path(__file__).resolve().parent.parent
 PAGE = ROOT / "docs" / "DEFINITIONS.md"
 CALLS = ["lei_values", "lei_outside", "lei_keeper", "memory_devices", "lei_code", "register_history", "delta_apply",
          "program_words", "keeper_sqlite", "lei_office", "lei_hall", "issuer_http", "line_service", "leireg_run", "leireg_serve"]
+LEAST = 1200
 HEAD = """# Definitions
 
 The definitions that the contracts of the public calls reach, crate by crate, from the lowest up, each with its type. The public calls are those of {calls}. The page is made by `docs/definitions.py` from the comments in `crates/*/specs`, which are right above the definitions: change them there. `docs/definitions.py --check` reports whether the page is stale. What is defined for parts of the program alone, or for proofs, isn't here.
@@ -190,7 +192,7 @@ def table(spec, seen):
 
 
 def page():
-    """The page, and the definitions that have no words."""
+    """The page, and what is wrong with what it is made from."""
     specs, order = {}, []
     for crate in crates():
         lib = ROOT / "crates" / crate / "specs" / "Lib.antt"
@@ -205,24 +207,27 @@ def page():
             lines += ["", f"## `{crate}`"] if crate != last else []
             lines += ["", f"### [`{module}.antt`](../crates/{crate}/specs/{module}.antt)", "", specs[crate, module].head, *rows]
             last = crate
-    bare = [f"crates/{crate}/specs/{module}.antt: {name}" for crate, module in order for name in specs[crate, module].bare]
-    return "\n".join(lines) + "\n", bare
+    faults = [f"crates/{crate}/specs/{module}.antt: {name} has no words"
+              for crate, module in order for name in specs[crate, module].bare]
+    faults += [f"docs/definitions.py: there is no crate {crate}" for crate in CALLS if crate not in list(crates())]
+    faults += [f"docs/DEFINITIONS.md: it has {len(seen)} definitions, and {LEAST} are the least"] * (len(seen) < LEAST)
+    return "\n".join(lines) + "\n", faults
 
 
 def main():
-    text, bare = page()
-    for each in bare:
-        print(f"{each} has no words", file=sys.stderr)
+    text, faults = page()
+    for fault in faults:
+        print(fault, file=sys.stderr)
     if sys.argv[1:] == ["--check"]:
         stale = not PAGE.exists() or PAGE.read_text() != text
         if stale:
             print("docs/DEFINITIONS.md is stale: run docs/definitions.py", file=sys.stderr)
-        return 1 if stale or bare else 0
+        return 1 if stale or faults else 0
     if sys.argv[1:]:
         print(__doc__, file=sys.stderr)
         return 2
     PAGE.write_text(text)
-    return 1 if bare else 0
+    return 1 if faults else 0
 
 
 if __name__ == "__main__":

@@ -1,6 +1,6 @@
 #!/usr/bin/env python3
 """Checks the README of each crate against its sources: it has a row for each clause of each call that the crate exports, in
-order, and no others.
+order, with a sentence, and no others. Fewer rows in all than `LEAST` don't pass.
 
 A call is an exported function, a method of an exported type, or one that an exported trait asks for.
 
@@ -16,6 +16,7 @@ EXPORT = re.compile(r"pub use (\w+)::(?:\{([^}]*)\}|(\w+(?: as \w+)?));")
 BLOCK = re.compile(r"^(?:pub )?(impl|trait)\b(?:<.*?>(?= ))? ?(?:(?:unsafe )?(\w+)\S*) ?(.*)$")
 CALL = re.compile(r"^(    )?(pub )?(?:const )?fn (\w+)")
 CLAUSE = re.compile(r"^\s*(ensures|requires) (?:(\w+) )?\{")
+LEAST = 1000
 ROW = re.compile(r"^\| `([\w:]+)` \| ((?:requires )?(?:`\w+`|—)) \| (.*) \|$")
 
 
@@ -86,6 +87,7 @@ def stale(crate):
         return
     found = [ROW.match(line) for line in page.read_text().splitlines()]
     there = [(row[1], row[2]) for row in found if row]
+    yield from (f"the row for {row[1]}, {row[2]} says nothing" for row in found if row and not row[3].strip())
     wanted = list(rows_of(crate))
     yield from (f"no row for {call}, {clause}" for call, clause in wanted if (call, clause) not in there)
     yield from (f"a row too many: {call}, {clause}" for call, clause in there if (call, clause) not in wanted)
@@ -102,6 +104,8 @@ def main():
         print(__doc__, file=sys.stderr)
         return 2
     faults = [f"crates/{crate}/README.md: {fault}" for crate in crates() for fault in stale(crate)]
+    rows = sum(1 for crate in crates() for _ in rows_of(crate))
+    faults += [f"crates/*/README.md: {rows} rows are asked for in all, and {LEAST} are the least"] * (rows < LEAST)
     for fault in faults:
         print(fault, file=sys.stderr)
     return 1 if faults else 0

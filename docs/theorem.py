@@ -1,6 +1,7 @@
 #!/usr/bin/env python3
-"""Checks docs/THEOREM.md against the sources: each formula is word for word in the file that is named above it, the table
-has each `ensures` clause of the functions that it is about once and no others, and each file that is named exists.
+"""Checks docs/THEOREM.md against the sources: each formula is word for word in the file that is named above it and leaves out
+no case of its definition, the table has each clause of the functions that it is about once and no others, and each file
+that is named exists. A page with fewer formulas than `LEAST` doesn't pass.
 
 usage: docs/theorem.py    ends with status 1, and reports what is stale, if anything is
 """
@@ -11,7 +12,8 @@ import sys
 ROOT = pathlib.Path(__file__).resolve().parent.parent
 PAGE = ROOT / "docs" / "THEOREM.md"
 NAMED = re.compile(r"^-- (crates/\S+)$")
-ROW = re.compile(r"^\| `(\w+)` \| (`\w+`(?:, `\w+`)*) \| .* \|$")
+ROW = re.compile(r"^\| ((?:requires )?(?:`\w+`|—)) \| (`\w+`(?:, `\w+`)*) \| (.*) \|$")
+LEAST = 10
 # The functions that the table is about, each with its file.
 FUNCTIONS = {
     "open": "crates/lei_office/src/office.rt",
@@ -20,7 +22,9 @@ FUNCTIONS = {
     "serve": "crates/leireg_serve/src/serving.rt",
     "serve_connection": "crates/issuer_http/src/connection.rt",
 }
-CLAUSE = re.compile(r"^\s*ensures (\w+) \{")
+CLAUSE = re.compile(r"^\s*(ensures|requires) (?:(\w+) )?\{")
+# The first line of a case of a definition: its name, its patterns, and what it is.
+CASE = re.compile(r"^(\S+) (?!:)[^:]*? =(?: |$)")
 
 
 def formulas(lines):
@@ -41,25 +45,33 @@ def stale_formula(block):
     file = ROOT / named[1]
     if not file.is_file():
         return f"{named[1]} isn't there"
-    if "\n".join(block[1:]) + "\n" not in file.read_text():
-        return f"{named[1]} doesn't have this: {block[1]}"
+    text = file.read_text()
+    if not block[1:] or "\n" + "\n".join(block[1:]) + "\n" not in text:
+        return f"{named[1]} doesn't have this: {' '.join(block[1:2])}"
+    if case := CASE.match(block[1]):
+        for line in text.splitlines():
+            if line not in block and (other := CASE.match(line)) and other[1] == case[1]:
+                return f"{named[1]} has a case that the formula leaves out: {line}"
     return None
 
 
 def clauses(file, function):
-    """The names of a function's `ensures` clauses, in order: those before the line that opens its body."""
+    """A function's clauses as the table names them, in order: those before the line that opens its body."""
     lines = file.read_text().splitlines()
     start = next((at for at, line in enumerate(lines) if re.match(rf"\s*pub fn {function}\b", line)), None)
     if start is None:
         return None
     indent = re.match(r"\s*", lines[start])[0]
     end = next(at for at in range(start, len(lines)) if lines[at] in (f"{indent}{{", f"{indent}{{}}"))
-    return [found[1] for line in lines[start:end] if (found := CLAUSE.match(line))]
+    return ["requires " * (found[1] == "requires") + (f"`{found[2]}`" if found[2] else "—")
+            for line in lines[start:end] if (found := CLAUSE.match(line))]
 
 
 def stale_rows(lines):
     rows = {function: [] for function in FUNCTIONS}
     for row in filter(None, map(ROW.match, lines)):
+        if not row[3].strip():
+            yield f"the row of {row[1]} says nothing"
         for function in re.findall(r"\w+", row[2]):
             if function not in rows:
                 yield f"the row of {row[1]} is of {function}, which the table isn't about"
@@ -77,7 +89,9 @@ def main():
         return 2
     text = PAGE.read_text()
     lines = text.splitlines()
-    stale = [fault for block in formulas(lines) if (fault := stale_formula(block))]
+    blocks = list(formulas(lines))
+    stale = [fault for block in blocks if (fault := stale_formula(block))]
+    stale += [f"it has {len(blocks)} formulas, and {LEAST} are the least"] * (len(blocks) < LEAST)
     stale += stale_rows(lines)
     stale += [f"{name} isn't there" for name in re.findall(r"`(crates/[\w./]+)`", text) if not (ROOT / name).exists()]
     for fault in stale:
