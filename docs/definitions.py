@@ -161,7 +161,7 @@ def contracts(crate):
 
 
 def reached(specs):
-    todo = [place for crate in CALLS for text, imports in contracts(crate) for place in imports.reached(text)]
+    todo = [place for crate in crates() if crate in CALLS for text, imports in contracts(crate) for place in imports.reached(text)]
     seen = set()
     while todo:
         place = todo.pop()
