@@ -16,7 +16,7 @@ import re
 import sys
 
 import readmes
-from readmes import CALL, CLAUSE, ROOT, block_name, crates, exports
+from readmes import CALL, CLAUSE, ROOT, block_name, crates, exports, lines_of
 
 PAGE = ROOT / "docs" / "CALLS.md"
 MARK = "<!-- what follows is made by docs/calls.py -->"
@@ -88,6 +88,7 @@ LEFT = {
     "lei_hall.Hall::submit": "—",
     "lei_hall.Hall::put": "—",
     "lei_hall.Hall::meet": "first second",
+    "request_loop.write_pieces": "written",
     "issuer_http.serve_connection": "serves",
     "issuer_http.serve_caller": "serves",
     "issuer_http.send_response": "sent left read_count",
@@ -97,7 +98,6 @@ LEFT = {
     "line_reading.WriteBuffer::flush": "sent left read_count",
     "line_reading.put_all": "puts left read_count",
     "search_queries.serve_queries": "serves reads writes",
-    "command_ends.write_pieces": "written",
     "file_commands.check": "tells",
     "file_commands.digits": "tells",
     "file_commands.apply": "applies reads writes",
@@ -108,9 +108,9 @@ LEFT = {
     "file_commands.mirror": "mirrors reads writes",
     "line_service.run_lines": "unopened runs reads writes",
     "leireg_run.run": "untouched unopened does reads writes",
+    "leireg_run.run_command": "unkept",
     "leireg_serve.serve_desk": "—",
     "leireg_serve.serve": "unserved unkept serves",
-    "leireg_commands.run_command": "unkept",
 }
 NAMED = re.compile(r"`([\w:]+)`: (—|`\w+`(?:, `\w+`)*)")
 
@@ -156,7 +156,7 @@ def calls_of(crate):
     types = set().union(*named.values()) if named else set()
     for module in ["lib", *re.findall(r"^(?:pub )?mod (\w+);", source, re.M)]:
         owner, is_trait, block, call = None, False, "", None
-        for line in (folder / f"{module}.rt").read_text().splitlines():
+        for line in lines_of(folder, module):
             if re.match(r"impl\b|pub trait\b", line):
                 owner, is_trait, block, call = block_name(line), line.startswith("pub trait"), line, None
             elif line == "}":

@@ -51,6 +51,14 @@ def block_name(line):
     return None if re.search(r"\bfor\b", rest) else re.match(r"\s*(\w+)", rest)[1]
 
 
+def lines_of(folder, module):
+    """The lines of a module, and of the modules in it."""
+    source = (folder / f"{module}.rt").read_text()
+    yield from source.splitlines()
+    for inner in re.findall(r"^(?:pub )?mod (\w+);", source, re.M) if module != "lib" else []:
+        yield from lines_of(folder / module, inner)
+
+
 def rows_of(crate):
     """The call and the clause of each row."""
     folder = ROOT / "crates" / crate / "src"
@@ -61,7 +69,7 @@ def rows_of(crate):
     modules = re.findall(r"^(?:pub )?mod (\w+);", (folder / "lib.rt").read_text(), re.M)
     for module in ["lib", *modules]:
         block, is_trait, call = None, False, None
-        for line in (folder / f"{module}.rt").read_text().splitlines():
+        for line in lines_of(folder, module):
             if re.match(r"impl\b|pub trait\b", line):
                 block, is_trait, call = block_name(line), line.startswith("pub trait"), None
             elif line == "}":

@@ -6,8 +6,8 @@ use Rattle.request_loop.specs.ReadBuffers.{Fills}
 use Rattle.lei_outside.proofs.Told.{Loses-join, Loses-none}
 use Rattle.std.specs.Result.{IsErrAnd}
 use Rattle.std.specs.Prelude.{IfErr}
-use Rattle.command_ends.specs.declared.stop.Stop.{Stop}
-use Rattle.command_ends.specs.declared.stop.Stop.TheVariants as stops
+use Rattle.line_reading.specs.declared.stop.Stop.{Stop}
+use Rattle.line_reading.specs.declared.stop.Stop.TheVariants as stops
 use Rattle.file_commands.specs.Files.{IsFileStop, IsReadShort, IsReadToLimit, IsReadWhole, file_limit}
 
 -- these bytes were read so far

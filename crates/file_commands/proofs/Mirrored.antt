@@ -8,10 +8,10 @@ use Rattle.mirror_queries.proofs.Served.{serves_follow}
 use Rattle.mirror_queries.proofs.Steps.{empty_follows}
 use Rattle.request_loop.specs.Serving.{Serves}
 use Rattle.request_loop.specs.declared.frames.Ended.{Ended}
-use Rattle.command_ends.specs.Inputs.{run_limit}
+use Rattle.line_reading.specs.Inputs.{run_limit}
 use Rattle.file_commands.specs.Mirroring.{AnswersMirror, CompletesMirror, Mirrors}
 use Rattle.file_commands.specs.Sides.{Sides}
-use Rattle.command_ends.specs.Status.{end_status, ended_as}
+use Rattle.line_reading.specs.Status.{end_status, ended_as}
 use Rattle.file_commands.proofs.Serving.{at_status, ended_status, served_to_end}
 
 -- queries were served starting from an empty mirror

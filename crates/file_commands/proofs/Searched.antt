@@ -8,13 +8,13 @@ use Rattle.copy_forms.specs.Files.{IsCopyRead}
 use Rattle.delta_apply.specs.Applying.{IsNoCopy}
 use Rattle.search_queries.specs.Searches.{SearchStep, state_of}
 use Rattle.search_queries.specs.Serving.{search_progress, search_rules}
-use Rattle.command_ends.specs.Inputs.{run_limit}
+use Rattle.line_reading.specs.Inputs.{run_limit}
 use Rattle.file_commands.specs.Files.{IsFileStop}
 use Rattle.file_commands.specs.Searching.{AnswersAllQueries, AnswersCopy, AnswersFrom, CompletesSearch, Searches}
 use Rattle.file_commands.specs.Sides.{Sides, sides}
-use Rattle.command_ends.specs.Status.{stop_status}
+use Rattle.line_reading.specs.Status.{stop_status}
 use Rattle.file_commands.specs.TwoFiles.{Files}
-use Rattle.command_ends.specs.declared.stop.Stop.{Stop}
+use Rattle.line_reading.specs.declared.stop.Stop.{Stop}
 use Rattle.file_commands.proofs.Serving.{at_status, ended_status, served_to_end}
 use Rattle.file_commands.proofs.TwoFilesRead.{not_to_limit, stops_at, told_whole}
 

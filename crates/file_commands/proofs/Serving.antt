@@ -4,8 +4,8 @@ use Rattle.line_reading.specs.declared.framing.NoEnd.{NoEnd}
 use Rattle.request_loop.specs.Frames.{Rules}
 use Rattle.request_loop.specs.Serving.{AnswersToEnd, EndsWith, Progress, Serves}
 use Rattle.request_loop.specs.declared.frames.Ended.{Ended}
-use Rattle.command_ends.specs.Inputs.{run_limit}
-use Rattle.command_ends.specs.Status.{end_status, ended_as}
+use Rattle.line_reading.specs.Inputs.{run_limit}
+use Rattle.line_reading.specs.Status.{end_status, ended_as}
 use Rattle.file_commands.proofs.TwoFilesRead.{told_whole, told_within}
 
 -- ---- the statuses

@@ -8,9 +8,9 @@ use Rattle.lei_outside.specs.Faults.{FailsLast}
 use Rattle.lei_outside.specs.Told.{IsAtEnd, Loses}
 use Rattle.file_commands.specs.TwoFiles.{AreLeft, CompletesFiles, DoesWithFiles, FailsOneOf, FileOutcome, Files, Rule, WritesResultOf, outcome_status}
 use Rattle.file_commands.specs.Files.{IsFileStop, IsReadToLimit, IsReadWhole, file_limit}
-use Rattle.command_ends.specs.Status.{end_status, stop_status}
-use Rattle.command_ends.specs.declared.stop.Stop.{Stop}
-use Rattle.command_ends.specs.declared.stop.Stop.TheVariants as stops
+use Rattle.line_reading.specs.Status.{end_status, stop_status}
+use Rattle.line_reading.specs.declared.stop.Stop.{Stop}
+use Rattle.line_reading.specs.declared.stop.Stop.TheVariants as stops
 
 -- ---- told bytes
 

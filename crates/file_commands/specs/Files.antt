@@ -1,8 +1,8 @@
 -- Files that are read to their ends. This project's profile.
 use Rattle.std.specs.Prelude.{◌≡◌, ◌<◌, ℕ, List, length, Option}
 use Rattle.lei_outside.specs.Told.{IsAtEnd, Loses}
-use Rattle.command_ends.specs.declared.stop.Stop.{Stop}
-use Rattle.command_ends.specs.declared.stop.Stop.TheVariants as stops
+use Rattle.line_reading.specs.declared.stop.Stop.{Stop}
+use Rattle.line_reading.specs.declared.stop.Stop.TheVariants as stops
 
 -- Reading a file ends at 1,073,741,824 bytes (1 GiB).
 abbrev pub file_limit : ℕ

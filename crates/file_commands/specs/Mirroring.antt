@@ -9,9 +9,9 @@ use Rattle.mirror_queries.specs.Serving.{mirror_progress, mirror_rules}
 use Rattle.query_reading.specs.declared.reply.QueryReply.{QueryReply}
 use Rattle.request_loop.specs.Serving.{AnswersToEnd, Serves}
 use Rattle.request_loop.specs.declared.frames.Ended.{Ended}
-use Rattle.command_ends.specs.Inputs.{run_limit}
+use Rattle.line_reading.specs.Inputs.{run_limit}
 use Rattle.file_commands.specs.Sides.{Sides, StartsWithoutMemory}
-use Rattle.command_ends.specs.Status.{end_status, ended_as}
+use Rattle.line_reading.specs.Status.{end_status, ended_as}
 
 -- Queries were answered starting from the empty mirror, by steps of this kind.
 abbrev pub ServesMirror : (MirrorState → MirrorAsked → List ℤ → QueryReply → MirrorState → Type 0) → Sides → Sides

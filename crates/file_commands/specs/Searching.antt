@@ -12,12 +12,12 @@ use Rattle.request_loop.specs.declared.frames.Ended.{Ended}
 use Rattle.line_reading.specs.declared.framing.NoEnd.{NoEnd}
 use Rattle.search_queries.specs.Searches.{SearchState, SearchStep, state_of}
 use Rattle.search_queries.specs.Serving.{search_progress, search_rules}
-use Rattle.command_ends.specs.Inputs.{run_limit}
+use Rattle.line_reading.specs.Inputs.{run_limit}
 use Rattle.file_commands.specs.Files.{IsFileStop, IsReadWhole, file_limit}
 use Rattle.file_commands.specs.Sides.{Sides, StartsWithoutMemory, sides}
-use Rattle.command_ends.specs.Status.{end_status, ended_as, stop_status}
+use Rattle.line_reading.specs.Status.{end_status, ended_as, stop_status}
 use Rattle.file_commands.specs.TwoFiles.{Files, WritesOutcome}
-use Rattle.command_ends.specs.declared.stop.Stop.{Stop}
+use Rattle.line_reading.specs.declared.stop.Stop.{Stop}
 
 -- The first input has the queries, and the second file is the copy.
 

@@ -4,8 +4,8 @@ use Rattle.lei_code.specs.Texts.{Text}
 use Rattle.lei_outside.specs.Faults.{FailsLast}
 use Rattle.lei_outside.specs.Told.{Grows, WritesFront}
 use Rattle.file_commands.specs.Files.{IsFileStop, IsReadWhole, file_limit}
-use Rattle.command_ends.specs.Status.{stop_status}
-use Rattle.command_ends.specs.declared.stop.Stop.{Stop}
+use Rattle.line_reading.specs.Status.{stop_status}
+use Rattle.line_reading.specs.declared.stop.Stop.{Stop}
 
 -- ---- what is written
 

@@ -4,14 +4,15 @@ ghost use Rattle.request_loop.specs.Devices.{FailsIf};
 ghost use Rattle.file_commands.specs.Applying.{Patches, apply_refusal};
 ghost use Rattle.file_commands.specs.TwoFiles.{DoesWithFiles, OneFailsIf, WritesOutcome, WritesResultOf, files};
 ghost use Rattle.request_loop.specs.Wires.{IsSent};
-ghost use Rattle.command_ends.specs.Status.{end_status};
+ghost use Rattle.line_reading.specs.Status.{end_status};
 
 use crate::files::read_file;
 use crate::writing::{tell_text, write_numbers};
-use command_ends::{Stop, write_pieces};
 use copy_csv::{Form, Sheet};
 use delta_apply::ApplyFault;
 use lei_outside::{Sink, SinkFault, Source};
+use line_reading::Stop;
+use request_loop::write_pieces;
 use std::alloc::Global;
 
 /// Reads a copy and a delta to their ends, and writes the copy after the delta, or why there is none.

@@ -6,11 +6,12 @@ ghost use Rattle.lei_code.specs.Digits.{digits};
 ghost use Rattle.lei_code.specs.Fault.{fault_of};
 ghost use Rattle.file_commands.specs.Codes.{check_line, digits_fault, digits_line, line_or, WritesLine};
 ghost use Rattle.request_loop.specs.Wires.{IsSent};
-ghost use Rattle.command_ends.specs.Status.{end_status};
+ghost use Rattle.line_reading.specs.Status.{end_status};
 
-use command_ends::{Stop, write_pieces};
 use lei_code::{Lei, LeiFault, check_digits};
 use lei_outside::{Sink, SinkFault};
+use line_reading::Stop;
+use request_loop::write_pieces;
 
 /// Writes whether the text is an LEI, or why it isn't.
 pub fn check<W: Sink>(text: &str, out: &mut W) -> Result<(), Stop>

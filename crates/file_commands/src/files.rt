@@ -6,10 +6,9 @@ ghost use Rattle.lei_outside.specs.Faults.{FailsLast};
 ghost use Rattle.request_loop.specs.Devices.{FailsIf};
 ghost use Rattle.file_commands.specs.Files.{IsFileStop, IsReadWhole};
 
-use command_ends::Stop;
 use lei_outside::{Failed, Source};
 use lei_values::{Bytes, NoMemory};
-use line_reading::BLOCK;
+use line_reading::{BLOCK, Stop};
 use memory_devices::SureSource;
 use std::alloc::Global;
 

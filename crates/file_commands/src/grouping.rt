@@ -4,16 +4,17 @@ ghost use Rattle.request_loop.specs.Devices.{FailsIf};
 ghost use Rattle.file_commands.specs.Grouping.{IsReport, IsReportOf, Reports, UnlessGroupLacksMemory, group_refusal};
 ghost use Rattle.file_commands.specs.TwoFiles.{DoesWithFiles, OneFailsIf, WritesOutcome, WritesResultOf, files};
 ghost use Rattle.request_loop.specs.Wires.{IsSent};
-ghost use Rattle.command_ends.specs.Status.{end_status};
+ghost use Rattle.line_reading.specs.Status.{end_status};
 
 use crate::files::read_file;
 use crate::writing::{tell_text, write_numbers};
-use command_ends::{Stop, write_pieces};
 use copy_csv::{Form, FormFault, Sheet};
 use copy_forms::read_copy;
 use group_reports::{GroupFault, Groups, ReportFault};
 use lei_outside::{Sink, SinkFault, Source};
 use lei_values::{Bytes, NoMemory};
+use line_reading::Stop;
+use request_loop::write_pieces;
 use std::alloc::Global;
 
 /// Why no report is made.

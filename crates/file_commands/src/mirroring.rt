@@ -6,10 +6,10 @@ ghost use Rattle.mirror_queries.specs.Grammar.{mirror_says};
 ghost use Rattle.query_reading.specs.QueryFrames.{HoldsQuery};
 ghost use Rattle.file_commands.specs.Mirroring.{AnswersMirror, Mirrors};
 ghost use Rattle.file_commands.specs.Sides.{sides};
-ghost use Rattle.command_ends.specs.Status.{end_status};
+ghost use Rattle.line_reading.specs.Status.{end_status};
 
-use command_ends::{MAX_INPUT, Stop, ended_as};
 use lei_outside::{Sink, Source};
+use line_reading::{MAX_INPUT, Stop, ended_as};
 use mirror_queries::{MirrorGrammar, MirrorServer, serve_mirror};
 use query_reading::QueryFraming;
 use request_loop::{Duplex, Intake};

@@ -8,13 +8,13 @@ ghost use Rattle.query_reading.specs.QueryFrames.{HoldsQuery};
 ghost use Rattle.file_commands.specs.Searching.{AnswersCopy, AnswersFrom, Searches, copy_refusal};
 ghost use Rattle.file_commands.specs.Sides.{sides};
 ghost use Rattle.file_commands.specs.TwoFiles.{OneFailsIf, WritesOutcome, files};
-ghost use Rattle.command_ends.specs.Status.{end_status};
+ghost use Rattle.line_reading.specs.Status.{end_status};
 
 use crate::files::read_file;
-use command_ends::{MAX_INPUT, Stop, ended_as};
 use copy_csv::{Form, FormFault, Sheet};
 use copy_forms::read_copy;
 use lei_outside::{Sink, Source};
+use line_reading::{MAX_INPUT, Stop, ended_as};
 use query_reading::QueryFraming;
 use request_loop::{Duplex, Intake, send_piece};
 use search_queries::{SearchGrammar, Searcher, serve_queries};

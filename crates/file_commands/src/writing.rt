@@ -3,10 +3,11 @@ ghost use Rattle.std.specs.Prelude.{◌∷◌, ◌++◌, [], Ok, decimal, IsErrO
 ghost use Rattle.request_loop.specs.Devices.{FailsIf};
 ghost use Rattle.request_loop.specs.Wires.{IsSent};
 ghost use Rattle.file_commands.specs.TwoFiles.{WritesOutcome};
-ghost use Rattle.command_ends.specs.Status.{end_status};
+ghost use Rattle.line_reading.specs.Status.{end_status};
 
-use command_ends::{Stop, write_pieces};
 use lei_outside::{Sink, SinkFault, write_all};
+use line_reading::Stop;
+use request_loop::write_pieces;
 
 /// Writes a text.
 pub fn tell_text<W: Sink>(text: &[u8], out: &mut W) -> Result<(), Stop>

@@ -5,8 +5,8 @@ mod reported;
 mod serving;
 mod store;
 
-use leireg_commands::{run_command, tell, words};
-use program_words::{Command, WantedRun, WordsFault, wanted_run};
+use leireg_run::run_command;
+use program_words::{Command, WantedRun, WordsFault, tell, wanted_run, words};
 use register_words::ExitStatus;
 use serving::serve_words;
 use std::io;

@@ -5,9 +5,8 @@ ghost use Rattle.leireg_serve.specs.Words.{MeanServing};
 
 use crate::store::{StoreKeeper, close, keeper_at};
 use lei_outside::OpenGate;
-use leireg_devices::SystemClock;
+use leireg_devices::{Deadlines, Operator, SystemClock, TcpDoor};
 use leireg_serve::{Desk, serve, server_of};
-use leireg_sockets::{Deadlines, Operator, TcpDoor};
 use program_words::{WantedRun, WordsFault};
 use register_words::ExitStatus;
 use sqlite::Alter;

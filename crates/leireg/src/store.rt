@@ -1,8 +1,8 @@
 //! The keeper of a run: in memory, or over a file.
 use crate::reported::Reported;
 use keeper_sqlite::SqliteKeeper;
-use leireg_commands::OneOf;
 use leireg_devices::Watched;
+use leireg_run::OneOf;
 use memory_devices::SureKeeper;
 use sqlite::{Alter, File, FileStore};
 use std::mem::forget;

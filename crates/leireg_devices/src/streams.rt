@@ -1,4 +1,4 @@
-//! Any writer of std, such as the standard output, as a sink, and single reads of a reader.
+//! Any writer of std, such as the standard output, as a sink, and single reads and writes.
 ghost use Rattle.std.specs.Io.KnownBytes.{ReadConsumes, WriteAppends};
 ghost use Rattle.std.specs.Prelude.{◌≡◌, ◌≤◌, ◌<◌, None, length, IfOk, IsErrOf, MatchResult};
 ghost use Rattle.lei_values.specs.Count.{Rose, count_up};
@@ -76,8 +76,8 @@ pub fn read_once<R: Read>(reader: &mut R, buffer: &mut [u8]) -> Result<usize, Fa
     Err(Failed)
 }
 
-// One write, repeated if a signal stopped it before it took a byte. A write that takes nothing fails as well.
-fn write_once<W: Write>(writer: &mut W, piece: &[u8]) -> Result<usize, Failed>
+/// One write, repeated if a signal stopped it before it took a byte. A write that takes nothing fails as well.
+pub fn write_once<W: Write>(writer: &mut W, piece: &[u8]) -> Result<usize, Failed>
     ensures within { IfOk result (λ count. (0 < count) × (count ≤ length piece.now)) }
     ensures writer { WriteAppends (W.contents writer.old) (W.contents writer.new) result piece.now }
 {

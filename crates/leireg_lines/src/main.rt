@@ -1,8 +1,8 @@
 //! The command `lines` over memory alone, for a first look. It stands on few crates, and so is compiled soonest.
 #![tactic(auto)]
 
-use command_ends::Stop;
 use leireg_devices::{FileSource, StdSink, SystemClock};
+use line_reading::Stop;
 use line_service::run_lines;
 use memory_devices::SureKeeper;
 use register_words::ExitStatus;

@@ -20,9 +20,9 @@ use Rattle.file_commands.proofs.Mirrored.{completes_mirror}
 use Rattle.file_commands.proofs.Searched.{completes_search}
 use Rattle.file_commands.proofs.TwoFilesRead.{completes_files}
 use Rattle.program_words.specs.Words.{Invocation, to_answer_lines, to_check, to_make_digits, to_make_up, to_mirror, to_patch, to_report, to_search, to_serve}
-use Rattle.command_ends.specs.Status.{end_status, stop_status}
-use Rattle.command_ends.specs.declared.stop.Stop.{Stop}
-use Rattle.command_ends.specs.declared.stop.Stop.TheVariants as stops
+use Rattle.line_reading.specs.Status.{end_status, stop_status}
+use Rattle.line_reading.specs.declared.stop.Stop.{Stop}
+use Rattle.line_reading.specs.declared.stop.Stop.TheVariants as stops
 
 tells_done : (fault : Option LeiFault) (line : List ℕ) (before after : Option (List ℕ)) (status : ℕ) → status ≢ 4
     → status ≢ 6

@@ -8,7 +8,7 @@ use Rattle.lei_code.specs.Texts.{Text}
 use Rattle.file_commands.specs.Codes.{check_line, digits_fault, digits_line, code_status, WritesLine}
 use Rattle.line_service.specs.Ends.{IsComplete, RunsLines, WritesDamage}
 use Rattle.line_service.specs.Outside.{Outside}
-use Rattle.command_ends.specs.Inputs.{run_limit}
+use Rattle.line_reading.specs.Inputs.{run_limit}
 use Rattle.register_demo.specs.Session.{IsSummary}
 use Rattle.file_commands.specs.Applying.{Patches}
 use Rattle.file_commands.specs.Grouping.{Reports}

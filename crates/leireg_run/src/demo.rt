@@ -2,11 +2,11 @@
 ghost use Rattle.std.specs.Prelude.{◌≤◌, IsErrOf};
 ghost use Rattle.request_loop.specs.Devices.{FailsIf};
 ghost use Rattle.leireg_run.specs.Ends.{WritesSummary};
-ghost use Rattle.command_ends.specs.Status.{end_status};
+ghost use Rattle.line_reading.specs.Status.{end_status};
 
-use command_ends::Stop;
 use file_commands::tell_text;
 use lei_outside::Sink;
+use line_reading::Stop;
 use register_demo::demo;
 use std::alloc::Global;
 use std::thread::Threads;

@@ -1,11 +1,16 @@
-//! The commands of the program, for any sources, any sink, any keeper and any clock.
+//! The commands of the program, for any sources, any sink, any keeper and any clock, and with the devices of the
+//! machine.
 #![tactic(auto)]
 
 mod command;
 mod demo;
 mod laws;
+mod one_of;
 mod program;
+mod running;
 
 pub use file_commands::no_file;
 pub use laws::mirrors_show_copies_of_histories;
+pub use one_of::OneOf;
 pub use program::run;
+pub use running::run_command;

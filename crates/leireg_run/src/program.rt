@@ -3,19 +3,19 @@ ghost use Rattle.std.specs.Prelude.{◌≡◌, ◌≢◌, ◌⊎◌, None, Some,
 ghost use Rattle.lei_values.specs.Count.{Rose};
 ghost use Rattle.leireg_run.specs.Ends.{Does, DoesIfRead, CompletesRun};
 ghost use Rattle.line_service.specs.Ends.{IsUnopened, WritesDamage};
-ghost use Rattle.line_service.specs.Opened.{MayTell};
+ghost use Rattle.register_history.specs.Opened.{MayTell};
 ghost use Rattle.line_service.specs.Outside.{OutputFails, outside};
-ghost use Rattle.command_ends.specs.Status.{end_status};
+ghost use Rattle.line_reading.specs.Status.{end_status};
 ghost use Rattle.file_commands.specs.TwoFiles.{OneFailsIf};
 ghost use Rattle.program_words.specs.Words.{Invocation, IsInRange, invocation_of, to_answer_lines};
 ghost use Rattle.leireg_run.specs.Words.{Mean, invocation_in, reads_input, reads_second, unless_serving};
 
 use crate::command::command_of;
 use crate::demo::tell_demo;
-use command_ends::Stop;
 use file_commands::{apply, check, digits, group, mirror, search};
 use lei_keeper::Keeper;
 use lei_outside::{Clock, Sink, Source};
+use line_reading::Stop;
 use line_service::run_lines;
 use program_words::{Command, WordsFault};
 use register_words::ExitStatus;

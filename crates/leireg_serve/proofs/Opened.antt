@@ -14,7 +14,7 @@ use Rattle.lei_office.specs.declared.opening.OpenFault.TheVariants as fault
 use Rattle.turnstile.specs.Passes.{AreNew}
 use Rattle.lei_hall.specs.Closing.{Closes}
 use Rattle.lei_hall.specs.Passes.{HallPass, HallView, numbers_of}
-use Rattle.line_service.specs.Opened.{MayTell}
+use Rattle.register_history.specs.Opened.{MayTell}
 use Rattle.leireg_serve.specs.Desks.{DeskState, LineTells}
 use Rattle.leireg_serve.specs.Ends.{ClosesOffice, DesksOutside, EndsServing, OpensAndServes, ServesHall, desk_status, desks_outside, fault_status, joint_end}
 use Rattle.leireg_serve.specs.Workers.{Works}

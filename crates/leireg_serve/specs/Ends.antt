@@ -15,7 +15,7 @@ use Rattle.lei_office.specs.declared.opening.OpenFault.{OpenFault}
 use Rattle.lei_office.specs.declared.opening.OpenFault.TheVariants as faults
 use Rattle.lei_hall.specs.Closing.{Closes}
 use Rattle.lei_hall.specs.Passes.{numbers_of}
-use Rattle.line_service.specs.Opened.{Opens}
+use Rattle.register_history.specs.Opened.{Opens}
 use Rattle.leireg_serve.specs.Desks.{DeskState, LineTells, ServedDesk, ServesDesks}
 use Rattle.leireg_serve.specs.declared.desk.DeskEnd.{DeskEnd}
 

@@ -1,7 +1,7 @@
 //! The command that serves the register, from its words, its keeper and its desks to its status.
 ghost use Rattle.std.specs.Prelude.{◌≡◌, ◌≢◌, ◌≤◌, ◌⊎◌, None, false, length, map, string_bytes, All};
 ghost use Rattle.lei_office.specs.Offices.{keeper_back};
-ghost use Rattle.line_service.specs.Opened.{MayTell};
+ghost use Rattle.register_history.specs.Opened.{MayTell};
 ghost use Rattle.leireg_serve.specs.Desks.{desk_state, line_tells};
 ghost use Rattle.leireg_serve.specs.Ends.{ClosesOffice, EndsServing, IsUnserved, desk_status, desks_outside, fault_status};
 ghost use Rattle.leireg_serve.specs.Words.{MeanServing, served_by};

@@ -5,3 +5,4 @@ pub mod LineFronts
 pub mod Lined
 pub mod Sending
 pub mod Walking
+pub mod Stopping

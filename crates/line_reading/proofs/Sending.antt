@@ -1,31 +1,11 @@
 -- What a wire took, piece by piece.
-use Rattle.std.proofs.Common.{◌≡◌, ℕ, ◌+◌, ◌<◌, List, [], ◌∷◌, ◌++◌, length, take, drop, get_or, flat_map, Bor, Option, Result, Ok, Err, OnOk, OnErr, refl, sym, ap, ◌∙◌, append_assoc, arith, length-append, subst}
-use Rattle.std.proofs.lemmas.List.{append-nil, take-append-le, take-append-drop, take_more}
-use Rattle.std.proofs.lemmas.List.Concat.{flat_map-append}
-use Rattle.std.proofs.Math.Seq.{take-append-add}
+use Rattle.std.proofs.Common.{◌≡◌, ℕ, ◌+◌, ◌<◌, List, [], ◌++◌, length, take, drop, get_or, flat_map, Bor, Option, Result, Ok, Err, OnOk, OnErr, refl, sym, ap, ◌∙◌, append_assoc, subst}
+use Rattle.std.proofs.lemmas.List.{append-nil}
 use Rattle.lei_outside.proofs.Told.{Grows-none, Grows-join}
 use Rattle.lei_outside.specs.Told.{Grows, WritesFront}
 use Rattle.request_loop.specs.Wires.{IsSent}
+use Rattle.request_loop.proofs.Sending.{Grows-front, WritesFront-longer, pieces_more, pieces_rest}
 use Rattle.line_reading.specs.WriteBuffer.{Sends}
-
-pub Grows-front : (a b c : Option (List ℕ)) (xs ys : List ℕ) → Grows a b xs → WritesFront b c ys
-    → WritesFront a c (xs ++ ys)
-Grows-front a b c xs ys first front =
-    let n = front.0 in
-    let within : length xs + n < length (xs ++ ys) = omega (arith, length-append xs ys, front.1) in
-    let P : List ℕ → Type 0 = λ zs. Grows a c zs in
-    (length xs + n, within, subst P (sym (take-append-add xs ys n)) (Grows-join a b c xs (take n ys) first front.2))
-
--- a proper prefix of a list is a proper prefix of a longer list
-pub WritesFront-longer : (a c : Option (List ℕ)) (xs ys : List ℕ) → WritesFront a c xs → WritesFront a c (xs ++ ys)
-WritesFront-longer a c xs ys front =
-    let n = front.0 in
-    let P : List ℕ → Type 0 = λ zs. Grows a c zs in (
-      n,
-      omega (arith, length-append xs ys, front.1),
-      subst P (sym (take-append-le n xs ys (omega (arith, front.1))))
-          front.2,
-    )
 
 -- ---- what was sent and what waits, with one more piece
 
@@ -74,22 +54,6 @@ refused_after a b c held piece (Err fault) first more = Grows-front a b c held p
 pub Sends-nothing : (a : Option (List ℕ)) (waits : List ℕ) → Sends a a waits waits
 Sends-nothing a waits = ([], Grows-none a, refl)
 
--- ---- pieces one after another
-
-pub pieces_more : (pieces : List (Bor (List ℕ))) (i : ℕ) (d : Bor (List ℕ)) → i < length pieces
-    → flat_map (λ piece. piece.now) (take (i + 1) pieces) ≡ flat_map (λ piece. piece.now)
-    (take i pieces) ++ (get_or pieces i d).now
-pieces_more pieces i d within =
-    ap (flat_map (λ piece. piece.now)) (take_more pieces i d within)
-    ∙ (flat_map-append (λ (piece : Bor (List ℕ)). piece.now) (take i pieces) (get_or pieces i d ∷ [])
-    ∙ ap (λ xs. flat_map (λ piece. piece.now) (take i pieces) ++ xs) (append-nil (get_or pieces i d).now))
-
-pub pieces_rest : (pieces : List (Bor (List ℕ))) (i : ℕ)
-    → flat_map (λ piece. piece.now) (take i pieces) ++ flat_map (λ piece. piece.now) (drop i pieces) ≡ flat_map
-    (λ piece. piece.now) pieces
-pieces_rest pieces i = sym (flat_map-append (λ (piece : Bor (List ℕ)). piece.now) (take i pieces) (drop i pieces))
-    ∙ ap (flat_map (λ piece. piece.now)) (take-append-drop i pieces)
-
 -- a piece that wasn't written whole, and the pieces that were to come after it
 pub refused : (a b c : Option (List ℕ)) (pieces : List (Bor (List ℕ))) (i : ℕ) (d : Bor (List ℕ)) (held waits : List ℕ)
     → i < length pieces
@@ -107,14 +71,3 @@ refused a b c pieces i d held waits within sent front =
     (ap (λ xs. xs ++ rest) (sym (pieces_more pieces i d within)) ∙ pieces_rest pieces (i + 1))) in
     subst P whole (WritesFront-longer a c ((held ++ done) ++ here) rest
     (Sends-front a b c (held ++ done) waits here sent front))
-
--- ---- nothing waits
-
-pub sent_then : (a b c : Option (List ℕ)) (all piece : List ℕ) → Sends a b all [] → Grows b c piece
-    → Sends a c (all ++ piece) []
-sent_then a b c all piece first more = (
-  first.0 ++ piece,
-  Grows-join a b c first.0 piece first.1 more,
-  ap (λ xs. xs ++ piece)
-      (first.2 ∙ append-nil first.0) ∙ sym (append-nil (first.0 ++ piece)),
-)

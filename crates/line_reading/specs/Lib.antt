@@ -6,3 +6,5 @@ pub mod WriteBuffer
 pub mod Replies
 pub mod LineFrames
 pub mod LineRuns
+pub mod Status
+pub mod Inputs

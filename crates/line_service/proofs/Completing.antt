@@ -11,10 +11,10 @@ use Rattle.register_history.specs.State.{OfficeState}
 use Rattle.register_history.proofs.Sessions.{exact}
 use Rattle.lei_values.specs.KeptTables.{KeptTables}
 use Rattle.line_service.specs.Ends.{AnswersLines, EndsRunWith, FailsToOpen, IsComplete, WritesDamage}
-use Rattle.line_service.specs.Opened.{Opens}
+use Rattle.register_history.specs.Opened.{Opens}
 use Rattle.request_loop.specs.Counts.{RoseBy}
 use Rattle.lei_office.specs.Faults.{keeper_faults}
-use Rattle.command_ends.specs.Inputs.{run_limit}
+use Rattle.line_reading.specs.Inputs.{run_limit}
 use Rattle.line_service.specs.Outside.{Course, Outside, RunLeads}
 use Rattle.line_reading.specs.LineRuns.{asks_of_lines}
 use Rattle.lei_office.proofs.Counting.{none_reported}

@@ -17,8 +17,8 @@ use Rattle.line_reading.specs.declared.framing.NoEnd.{NoEnd}
 use Rattle.line_reading.proofs.LineRuns.{AnsweredSome, all_front, answered_all, answered_in_part, answered_to_end}
 use Rattle.line_service.specs.Ends.{AnswersLines, AnswersSome, EndsRunWith, RunsFrom, StopsWriting}
 use Rattle.line_service.specs.Outside.{Course, Outside, outside}
-use Rattle.command_ends.specs.Inputs.{run_limit}
-use Rattle.command_ends.specs.Status.{end_status, ended_as}
+use Rattle.line_reading.specs.Inputs.{run_limit}
+use Rattle.line_reading.specs.Status.{end_status, ended_as}
 use Rattle.line_service.proofs.Fitting.{reads_office}
 
 -- ---- a run

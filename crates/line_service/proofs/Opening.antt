@@ -11,12 +11,12 @@ use Rattle.register_history.specs.Kept.{StaysUntold}
 use Rattle.register_words.specs.Limits.{standard}
 use Rattle.register_history.specs.State.{OfficeState}
 use Rattle.line_service.specs.Ends.{EndsRunWith, IsDamageWritten, IsUnopened, RunsFrom, RunsLines, WritesDamage, damage_text}
-use Rattle.line_service.specs.Opened.{IsOpened, MayTell}
+use Rattle.register_history.specs.Opened.{IsOpened, MayTell}
 use Rattle.request_loop.specs.Counts.{RoseBy}
 use Rattle.lei_office.specs.Faults.{keeper_faults}
 use Rattle.line_service.specs.Outside.{Course, Outside, outside}
-use Rattle.command_ends.specs.Status.{stop_status}
-use Rattle.command_ends.specs.declared.stop.Stop.{Stop}
+use Rattle.line_reading.specs.Status.{stop_status}
+use Rattle.line_reading.specs.declared.stop.Stop.{Stop}
 
 -- what a run does doesn't depend on what the keeper told before
 runs_so : (from : OfficeState) (left : Option (List ℕ)) (given : Option (List ℤ)) (written : Option (List ℕ)) (old new : Option KeptTables) (before now : ℕ) (after : Outside) (status : ℕ)

@@ -19,14 +19,14 @@ use Rattle.request_loop.specs.Wires.{IsSent}
 use Rattle.request_loop.specs.Serving.{read_limit}
 use Rattle.line_reading.specs.Lines.{Line, whole_part}
 use Rattle.request_loop.specs.Moments.{ClockGives}
-use Rattle.line_service.specs.Opened.{Opens}
+use Rattle.register_history.specs.Opened.{Opens}
 use Rattle.line_service.specs.Outside.{Course, Outside, RunLeads}
 use Rattle.line_reading.specs.Replies.{reply_texts}
 use Rattle.line_reading.specs.LineRuns.{asks_of_lines}
 use Rattle.line_service.specs.Runs.{AnswersCutShort, AnswersInBytes}
-use Rattle.command_ends.specs.Inputs.{run_limit}
-use Rattle.command_ends.specs.declared.stop.Stop.{Stop}
-use Rattle.command_ends.specs.declared.stop.Stop.TheVariants as stops
+use Rattle.line_reading.specs.Inputs.{run_limit}
+use Rattle.line_reading.specs.declared.stop.Stop.{Stop}
+use Rattle.line_reading.specs.declared.stop.Stop.TheVariants as stops
 
 -- ---- status by status
 

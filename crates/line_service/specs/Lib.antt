@@ -1,4 +1,3 @@
-pub mod Opened
 pub mod Outside
 pub mod Runs
 pub mod Ends

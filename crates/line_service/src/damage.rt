@@ -7,9 +7,10 @@ ghost use Rattle.request_loop.specs.Devices.{FailsIf};
 ghost use Rattle.request_loop.specs.Wires.{IsSent};
 ghost use Rattle.line_service.specs.Ends.{IsDamageWritten, damage_text};
 
-use command_ends::{Stop, write_pieces};
 use lei_office::Damage;
 use lei_outside::{Sink, SinkFault};
+use line_reading::Stop;
+use request_loop::write_pieces;
 
 /// Reports that a store is damaged, and returns how the command stops. It stops as damaged even if the output failed,
 /// but as out of memory if there was no memory for writing.

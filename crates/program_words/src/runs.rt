@@ -12,8 +12,7 @@ use crate::commands::{
 };
 use crate::fault::WordsFault;
 use clap::ArgMatches;
-use copy_csv::{Form, Sheet};
-use register_words::{form_of, number_within, sheet_of};
+use register_words::{Form, Sheet, form_of, number_within, sheet_of};
 use std::alloc::Global;
 
 /// How many connections a worker takes by default, and at most. This project's profile.

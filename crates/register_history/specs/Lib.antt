@@ -10,3 +10,4 @@ pub mod Standing
 pub mod Touching
 pub mod Damage
 pub mod Steps
+pub mod Opened

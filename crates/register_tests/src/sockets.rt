@@ -1,6 +1,6 @@
 //! Connections over loopback: what a link transfers, which peers are given up, and when a door is closed.
 use lei_outside::{Came, Door, Failed, Link, SinkFault};
-use leireg_sockets::{Deadlines, Operator, TcpDoor};
+use leireg_devices::{Deadlines, Operator, TcpDoor};
 use std::io::{self, Read, Write};
 use std::net::{Ipv4Addr, SocketAddr, TcpListener, TcpStream};
 use std::test::Fail;

@@ -9,9 +9,11 @@ mod framing;
 mod read_buffer;
 mod serving;
 mod wire;
+mod writing;
 
 pub use answers::Answers;
 pub use frames::{Ended, Front, Want};
 pub use framing::Framing;
 pub use serving::{Intake, serve};
 pub use wire::{Duplex, Wire, send_piece};
+pub use writing::write_pieces;

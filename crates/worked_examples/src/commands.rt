@@ -1,7 +1,7 @@
 //! The commands of the register over memory alone.
-use leireg_commands::{run_command, tell};
+use leireg_run::run_command;
 use memory_devices::SureKeeper;
-use program_words::{WordsFault, wanted_run};
+use program_words::{WordsFault, tell, wanted_run};
 use register_words::ExitStatus;
 use std::mem::forget;
 use std::thread::Threads;

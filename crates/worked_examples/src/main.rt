@@ -10,7 +10,7 @@ mod stores;
 mod trial;
 
 use commands::run_words;
-use leireg_commands::{tell, words};
+use program_words::{tell, words};
 use sessions::run_files;
 use std::io;
 use std::process::ExitCode;

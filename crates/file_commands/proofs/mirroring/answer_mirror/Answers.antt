@@ -1,6 +1,6 @@
 use Rattle.std.proofs.Common.{ap}
 use Rattle.file_commands.specs.Sides.{sides}
-use Rattle.command_ends.specs.Status.{end_status}
+use Rattle.line_reading.specs.Status.{end_status}
 use Rattle.file_commands.proofs.Mirrored.{mirrored}
 use Rattle.file_commands.proofs.mirroring.answer_mirror.Goals as goal
 

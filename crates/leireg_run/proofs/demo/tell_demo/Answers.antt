@@ -1,6 +1,6 @@
 use Rattle.std.proofs.Common.{List, ℕ, Ok, Option, ap, inl, subst}
 use Rattle.file_commands.specs.TwoFiles.{WritesOutcome}
-use Rattle.command_ends.specs.Status.{end_status}
+use Rattle.line_reading.specs.Status.{end_status}
 use Rattle.leireg_run.proofs.demo.tell_demo.Goals as goal
 
 pub returns-clause-tells : goal.returns-clause-tells

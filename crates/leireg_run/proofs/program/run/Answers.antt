@@ -1,6 +1,6 @@
 use Rattle.std.proofs.Common.{Err, ap, sym, ◌∙◌}
-use Rattle.command_ends.specs.Status.{end_status}
-use Rattle.line_service.specs.Opened.{MayTell}
+use Rattle.line_reading.specs.Status.{end_status}
+use Rattle.register_history.specs.Opened.{MayTell}
 use Rattle.leireg_run.proofs.Completing.{completes_meant, completes_stopped, only_damage, output_stopped}
 use Rattle.file_commands.proofs.TwoFilesRead.{rose_of, one_rose}
 use Rattle.leireg_run.proofs.program.run.Goals as goal

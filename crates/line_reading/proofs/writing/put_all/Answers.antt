@@ -1,8 +1,9 @@
 use Rattle.std.proofs.Common.{ℕ, ◌++◌, List, take, flat_map, sym, ap, ◌∙◌, refl, append_assoc, subst}
 use Rattle.std.proofs.lemmas.List.{append-nil}
 use Rattle.std.proofs.lemmas.Result.{MatchResult-from_err}
+use Rattle.request_loop.proofs.Sending.{pieces_more}
 use Rattle.line_reading.specs.WriteBuffer.{Sends}
-use Rattle.line_reading.proofs.Sending.{Sends-nothing, Sends-then, pieces_more, refused}
+use Rattle.line_reading.proofs.Sending.{Sends-nothing, Sends-then, refused}
 use Rattle.line_reading.proofs.writing.put_all.Goals as goal
 
 pub loop-piece-init : goal.loop-piece-init

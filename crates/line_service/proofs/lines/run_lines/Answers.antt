@@ -5,9 +5,9 @@ use Rattle.register_history.specs.Kept.{StaysUntold}
 use Rattle.register_words.specs.Limits.{standard}
 use Rattle.lei_office.specs.Offices.{FaultRose, IsRefused, keeper_back}
 use Rattle.line_service.specs.Ends.{RunsFrom}
-use Rattle.line_service.specs.Opened.{MayTell}
+use Rattle.register_history.specs.Opened.{MayTell}
 use Rattle.line_service.specs.Outside.{Outside, outside}
-use Rattle.command_ends.specs.Status.{end_status}
+use Rattle.line_reading.specs.Status.{end_status}
 use Rattle.line_service.proofs.Opening.{damaged_opening, opens_runs}
 use Rattle.line_service.proofs.lines.run_lines.Goals as goal
 

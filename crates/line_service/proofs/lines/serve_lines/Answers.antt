@@ -8,12 +8,12 @@ use Rattle.lei_office.proofs.Sessions.{serves_untold}
 use Rattle.line_reading.specs.LineFrames.{line_rules}
 use Rattle.line_service.specs.Ends.{RunsFrom}
 use Rattle.line_service.specs.Outside.{outside}
-use Rattle.command_ends.specs.Inputs.{run_limit}
-use Rattle.command_ends.specs.Status.{end_status, ended_as}
-use Rattle.command_ends.specs.declared.stop.Stop.{Stop}
+use Rattle.line_reading.specs.Inputs.{run_limit}
+use Rattle.line_reading.specs.Status.{end_status, ended_as}
+use Rattle.line_reading.specs.declared.stop.Stop.{Stop}
 use Rattle.line_service.proofs.Ending.{runs_served}
 use Rattle.line_service.proofs.Fitting.{lines_fit}
-use Rattle.command_ends.proofs.Stopping.{only_read_fault, only_write_fault}
+use Rattle.line_reading.proofs.Stopping.{only_read_fault, only_write_fault}
 use Rattle.line_service.proofs.lines.serve_lines.Goals as goal
 
 pub serve-requires-clause-fits : goal.serve-requires-clause-fits

@@ -1,5 +1,5 @@
 //! One of two keepers, and one of two readers, so that the commands of the program are compiled once for them.
-ghost use Rattle.leireg_commands.specs.OneOf.{either, left_of_either};
+ghost use Rattle.leireg_run.specs.OneOf.{either, left_of_either};
 
 use lei_keeper::{KeepFault, Keeper};
 use lei_values::{Batch, KeptCell, KeptEntry, List};
@@ -13,7 +13,7 @@ pub enum OneOf<A, B> {
 }
 
 impl<K: Keeper, L: Keeper> Keeper for OneOf<K, L> {
-    ghost use Rattle.leireg_commands.specs.declared.one_of.OneOf.{OneOf};
+    ghost use Rattle.leireg_run.specs.declared.one_of.OneOf.{OneOf};
 
     ghost tables = { either K.tables L.tables };
 

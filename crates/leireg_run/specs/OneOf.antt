@@ -1,7 +1,7 @@
 -- One of two keepers: it tells what that one tells.
 use Rattle.std.specs.Prelude.{Option}
 use Rattle.lei_values.specs.KeptTables.{KeptTables}
-use Rattle.leireg_commands.specs.declared.one_of.OneOf.{OneOf}
+use Rattle.leireg_run.specs.declared.one_of.OneOf.{OneOf}
 
 -- What is told of the first, or else of the second.
 abbrev pub either : {A B X : Type 0} → (A → X) → (B → X) → OneOf A B → X

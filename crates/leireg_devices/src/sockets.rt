@@ -1,6 +1,5 @@
 //! TCP connections, and the door that they come through, with the deadlines that keep a slow peer from holding up a
 //! server.
-#![tactic(auto)]
 
 mod closing;
 mod deadlines;

@@ -1,6 +1,6 @@
 //! How a command ended, as reported to a person on the standard error.
-use crate::help::{advice, cause};
-use program_words::help_of;
+use crate::ends::{advice, cause};
+use crate::help::help_of;
 use register_words::ExitStatus;
 
 /// Reports a status other than `Ok`: its word, what happened, and what to do. If the status is `Usage`, it reports how

@@ -3,13 +3,13 @@ ghost use Rattle.std.specs.Io.KnownBytes.{ReadConsumes, WriteAppends};
 ghost use Rattle.std.specs.Prelude.{◌≡◌, ◌≤◌, ◌<◌, None, length, IfOk, IfErr, OnOk, OnErr, IsErrOf};
 ghost use Rattle.lei_values.specs.Count.{Rose, count_up};
 ghost use Rattle.lei_outside.specs.Told.{Reads, Writes};
-ghost use Rattle.leireg_sockets.specs.Sockets.{StreamState};
+ghost use Rattle.leireg_devices.specs.Sockets.{StreamState};
 
-use crate::Deadlines;
-use crate::closing::close;
-use crate::deadlines::Watch;
+use crate::sockets::closing::close;
+use crate::sockets::deadlines::{Deadlines, Watch};
+use crate::streams::{read_once, write_once};
 use lei_outside::{Failed, Link, SinkFault};
-use std::io::{ErrorKind, Read, Write};
+use std::io::{Read, Write};
 use std::marker::Model;
 use std::net::TcpStream;
 use std::time::Clock;
@@ -26,7 +26,7 @@ pub struct StreamLink<'a, R, S> {
 }
 
 impl<'a, R, S> Model for StreamLink<'a, R, S> {
-    ghost use Rattle.leireg_sockets.specs.Sockets.{StreamState};
+    ghost use Rattle.leireg_devices.specs.Sockets.{StreamState};
 
     ghost Value = { StreamState S };
 
@@ -129,24 +129,6 @@ fn read_in_time<R: Clock, S: Read>(
     Ok(count)
 }
 
-// One read, repeated if a signal stopped it before it took a byte.
-fn read_once<S: Read>(stream: &mut S, buffer: &mut [u8]) -> Result<usize, Failed>
-    ensures within { IfOk result (λ count. count ≤ length buffer.new) }
-    ensures stream { ReadConsumes (S.remaining stream.old) (S.remaining stream.new) result buffer.new }
-{
-    for _ in 0..u64::MAX {
-        match stream.read(buffer) {
-            Ok(count) => return Ok(count),
-            Err(fault) => {
-                if fault.kind() != ErrorKind::Interrupted {
-                    return Err(Failed);
-                }
-            }
-        }
-    }
-    Err(Failed)
-}
-
 // One write, unless its replies are late.
 fn write_in_time<R: Clock, S: Write>(
     watch: &mut Watch<'_, R>,
@@ -162,23 +144,4 @@ fn write_in_time<R: Clock, S: Write>(
     let count = write_once(stream, piece)?;
     watch.note_write();
     Ok(count)
-}
-
-// One write, repeated if a signal stopped it before it took a byte. A write that takes nothing fails as well.
-fn write_once<S: Write>(stream: &mut S, piece: &[u8]) -> Result<usize, Failed>
-    ensures within { IfOk result (λ count. (0 < count) × (count ≤ length piece.now)) }
-    ensures stream { WriteAppends (S.contents stream.old) (S.contents stream.new) result piece.now }
-{
-    for _ in 0..u64::MAX {
-        match stream.write(piece) {
-            Ok(0) => return Err(Failed),
-            Ok(count) => return Ok(count),
-            Err(fault) => {
-                if fault.kind() != ErrorKind::Interrupted {
-                    return Err(Failed);
-                }
-            }
-        }
-    }
-    Err(Failed)
 }

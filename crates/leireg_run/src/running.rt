@@ -4,9 +4,9 @@ ghost use Rattle.program_words.specs.Words.{to_answer_lines};
 ghost use Rattle.leireg_run.specs.Words.{Mean, invocation_in};
 
 use crate::one_of::OneOf;
+use crate::program::run;
 use lei_keeper::Keeper;
 use leireg_devices::{FileSource, StdSink, SystemClock, WatchedSink};
-use leireg_run::run;
 use program_words::{Command, WantedRun};
 use std::fs::File;
 use std::io::Stdin;

@@ -2,9 +2,9 @@
 use Rattle.std.proofs.Common.{◌≡◌, Result, IsErrOf, refl}
 use Rattle.request_loop.specs.declared.frames.Ended.{Ended}
 use Rattle.line_reading.specs.declared.framing.NoEnd.{NoEnd}
-use Rattle.command_ends.specs.declared.stop.Stop.{Stop}
-use Rattle.command_ends.specs.declared.stop.Stop.TheVariants as stop
-use Rattle.command_ends.specs.Status.{ended_as}
+use Rattle.line_reading.specs.declared.stop.Stop.{Stop}
+use Rattle.line_reading.specs.declared.stop.Stop.TheVariants as stop
+use Rattle.line_reading.specs.Status.{ended_as}
 
 -- a read fault is reported only if a read failed
 pub only_read_fault : (ended : Ended NoEnd) (result : Result (Unit {0}) Stop) → result ≡ ended_as ended

@@ -6,8 +6,8 @@ use Rattle.lei_outside.specs.declared.faults.SinkFault.{SinkFault}
 use Rattle.lei_outside.specs.declared.faults.SinkFault.TheVariants.{Failed, NoMemory}
 use Rattle.request_loop.specs.declared.frames.Ended.{Ended}
 use Rattle.line_reading.specs.declared.framing.NoEnd.{NoEnd}
-use Rattle.command_ends.specs.declared.stop.Stop.{Stop}
-use Rattle.command_ends.specs.declared.stop.Stop.TheVariants as stop
+use Rattle.line_reading.specs.declared.stop.Stop.{Stop}
+use Rattle.line_reading.specs.declared.stop.Stop.TheVariants as stop
 
 -- The status of a command that stops for this reason.
 abbrev pub stop_status : Stop → ℕ

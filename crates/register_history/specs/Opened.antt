@@ -1,4 +1,4 @@
--- The office from which lines are answered.
+-- The office that is opened from what a keeper tells.
 use Rattle.std.specs.Prelude.{◌≡◌, Option}
 use Rattle.lei_values.specs.KeptTables.{KeptTables}
 use Rattle.lei_keeper.specs.Keeping.{TablesStay}

@@ -1,4 +1,4 @@
-//! What commands write.
+//! The writing of a text in pieces.
 ghost use Rattle.std.specs.Prelude.{flat_map, IsErrOf};
 ghost use Rattle.request_loop.specs.Devices.{FailsIf};
 ghost use Rattle.request_loop.specs.Wires.{IsSent};

@@ -1,10 +1,10 @@
 //! Why a command stops, and the status that it ends with.
 ghost use Rattle.std.specs.Prelude.{◌≡◌};
-ghost use Rattle.command_ends.specs.Status.{ended_as, stop_status};
+ghost use Rattle.line_reading.specs.Status.{ended_as, stop_status};
 
+use crate::framing::NoEnd;
 use lei_outside::{Failed, SinkFault};
 use lei_values::NoMemory;
-use line_reading::NoEnd;
 use register_words::ExitStatus;
 use request_loop::Ended;
 
@@ -39,7 +39,7 @@ impl Stop {
 }
 
 impl From<Failed> for Stop {
-    ghost use Rattle.command_ends.specs.declared.stop.Stop.TheVariants.{ReadFault};
+    ghost use Rattle.line_reading.specs.declared.stop.Stop.TheVariants.{ReadFault};
 
     ghost from_gives = { λ _ stop. stop ≡ ReadFault };
 
@@ -49,7 +49,7 @@ impl From<Failed> for Stop {
 }
 
 impl From<SinkFault> for Stop {
-    ghost use Rattle.command_ends.specs.Status.{stop_of};
+    ghost use Rattle.line_reading.specs.Status.{stop_of};
 
     ghost from_gives = { λ fault stop. stop ≡ stop_of fault };
 
@@ -62,7 +62,7 @@ impl From<SinkFault> for Stop {
 }
 
 impl From<NoMemory> for Stop {
-    ghost use Rattle.command_ends.specs.declared.stop.Stop.TheVariants as stop;
+    ghost use Rattle.line_reading.specs.declared.stop.Stop.TheVariants as stop;
 
     ghost from_gives = { λ _ e. e ≡ stop.NoMemory };
 

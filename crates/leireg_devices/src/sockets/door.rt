@@ -2,9 +2,11 @@
 ghost use Rattle.std.specs.Prelude.{◌≡◌, ◌≤◌, None, true, false, is_some};
 ghost use Rattle.lei_values.specs.Count.{Rose};
 ghost use Rattle.lei_outside.specs.Doors.{Comes, IsFailed, is_line};
-ghost use Rattle.leireg_sockets.specs.Sockets.{GivesLine, IsNewStream, ListenerState, Waits};
+ghost use Rattle.leireg_devices.specs.Sockets.{GivesLine, IsNewStream, ListenerState, Waits};
 
-use crate::{Deadlines, Operator, StreamLink};
+use crate::sockets::deadlines::Deadlines;
+use crate::sockets::link::StreamLink;
+use crate::sockets::operator::Operator;
 use lei_outside::{Came, Door, Failed};
 use std::io;
 use std::io::ErrorKind;
@@ -34,7 +36,7 @@ pub struct TcpDoor<'a, R, O> {
 
 impl<'a, R, O> Model for TcpDoor<'a, R, O> {
     ghost use Rattle.std.specs.Prelude.{is_some};
-    ghost use Rattle.leireg_sockets.specs.Sockets.{ListenerState};
+    ghost use Rattle.leireg_devices.specs.Sockets.{ListenerState};
 
     ghost Value = { ListenerState };
 
