@@ -21,7 +21,7 @@ import sys
 import tempfile
 
 ROOT = pathlib.Path(__file__).resolve().parent.parent
-BELOW = ["lei_outside", "lei_code", "lei_shapes", "lei_records", "copy_csv", "copy_forms"]
+BELOW = ["lei_outside", "lei_code", "lei_shapes", "lei_records", "item_fields", "copy_csv", "copy_forms"]
 NAME = "copies_bench"
 RUNS = 8
 TICKS = os.sysconf("SC_CLK_TCK")

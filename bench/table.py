@@ -22,7 +22,7 @@ import tempfile
 
 ROOT = pathlib.Path(__file__).resolve().parent.parent
 PROGRAM = ROOT / "crates" / "leireg" / "out" / "leireg"
-BELOW = ["lei_outside", "lei_code", "lei_shapes", "lei_records", "register_words", "worker_pool", "upload_format"]
+BELOW = ["lei_outside", "lei_code", "lei_shapes", "lei_records", "item_fields", "register_words", "worker_pool", "upload_format"]
 NAME = "table_bench"
 OFFICE = "506700GE1G29325QX363"
 RECORDS = 4400

@@ -7,12 +7,12 @@ use Rattle.std.proofs.lemmas.List.Elements.{All-cons, All-nil}
 use Rattle.lei_code.specs.Texts.{Lei, Text}
 use Rattle.lei_records.specs.Cells.{lei_in, successor_in, successors_in}
 use Rattle.lei_records.specs.Checks.{FailedCheck, Finding, IsCheckNumber, first_failing}
-use Rattle.lei_records.specs.Items.{failed_check, failed_field, says_withdraw, item_of, miscoded_field, misshapen_field, missing_field, ready, readied_as, row_of, unknown_name}
+use Rattle.item_fields.specs.Items.{failed_check, failed_field, says_withdraw, item_of, miscoded_field, misshapen_field, missing_field, ready, readied_as, row_of, unknown_name}
 use Rattle.lei_records.specs.Rows.{Row}
 use Rattle.lei_records.specs.Tables.{Table, other_holder, put_all, record_count, record_of}
-use Rattle.lei_records.specs.declared.fields.Kind.{Kind}
+use Rattle.item_fields.specs.declared.fields.Kind.{Kind}
 use Rattle.lei_records.specs.declared.item.Item.{Item}
-use Rattle.lei_records.specs.declared.item.RawItem.{RawItem}
+use Rattle.item_fields.specs.declared.item.RawItem.{RawItem}
 use Rattle.lei_records.specs.declared.item.Readied.{Readied}
 use Rattle.lei_records.specs.declared.view.RecCell.{RecCell}
 use Rattle.lei_records.specs.declared.rules.Rules.{Rules}

@@ -1,8 +1,8 @@
 //! A law of the definitions, stated as the contract of a function that does nothing.
 ghost use Rattle.std.specs.Prelude.{List, All, map};
-ghost use Rattle.lei_records.specs.Items.{ready};
+ghost use Rattle.item_fields.specs.Items.{ready};
 ghost use Rattle.lei_records.specs.Tables.{Table};
-ghost use Rattle.lei_records.specs.declared.item.RawItem.{RawItem};
+ghost use Rattle.item_fields.specs.declared.item.RawItem.{RawItem};
 ghost use Rattle.lei_records.specs.declared.rules.Rules.{Rules};
 ghost use Rattle.register_judge.specs.declared.sitting.Sitting.{Sitting};
 ghost use Rattle.register_judge.specs.Taking.{take};

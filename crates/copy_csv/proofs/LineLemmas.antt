@@ -8,7 +8,7 @@ use Rattle.std.proofs.lemmas.Grind.{flat_map-append}
 use Rattle.std.proofs.lemmas.List.{append-nil, get_or-take, length-take-le, take-append-drop, take_all}
 use Rattle.std.proofs.lemmas.List.Elements.{All-head, All-tail}
 use Rattle.std.proofs.lemmas.Str.{IsUtf8-append, IsUtf8-from_is_utf8, IsUtf8-nil}
-use Rattle.lei_records.specs.Fields.{exception_fields, fields, relation_fields}
+use Rattle.item_fields.specs.Fields.{exception_fields, fields, relation_fields}
 use Rattle.lei_records.specs.Rows.{text_at}
 use Rattle.std.proofs.lemmas.Bool.{false≢true}
 use Rattle.lei_code.specs.Texts.{Text}

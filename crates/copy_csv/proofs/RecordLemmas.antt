@@ -17,7 +17,7 @@ use Rattle.csv.specs.declared.writer.WriterBuilder.{WriterBuilder}
 use Rattle.csv.proofs.RoundTrip.{quoted-run}
 use Rattle.lei_code.specs.Texts.{Text}
 use Rattle.lei_records.specs.Rows.{text_at}
-use Rattle.lei_records.specs.Sheets.{read_texts}
+use Rattle.item_fields.specs.Sheets.{read_texts}
 use Rattle.register_words.specs.declared.sheets.Sheet.{Sheet}
 use Rattle.copy_csv.specs.declared.rows.Change.{Change}
 use Rattle.copy_csv.specs.Csv.{after_comma, change_fields, csv_copy, csv_delta, csv_fields_text, csv_line, delta_names, field_byte, in_quotes, separator}

@@ -5,9 +5,9 @@ use Rattle.std.proofs.Math.ListN.{get_or-map}
 use Rattle.std.proofs.lemmas.Bool.Decides.{eqb_tells}
 use Rattle.std.proofs.lemmas.List.{get_or-take, length-map}
 use Rattle.lei_code.specs.Texts.{Text}
-use Rattle.lei_records.specs.declared.fields.Content.{Content}
-use Rattle.lei_records.specs.declared.fields.Need.{Need}
-use Rattle.lei_records.specs.Fields.{Field, exception_fields, fields, fields_of, names_of, relation_fields, row_len}
+use Rattle.item_fields.specs.declared.fields.Content.{Content}
+use Rattle.item_fields.specs.declared.fields.Need.{Need}
+use Rattle.item_fields.specs.Fields.{Field, exception_fields, fields, fields_of, names_of, relation_fields, row_len}
 use Rattle.lei_records.specs.Rows.{text_at}
 use Rattle.register_words.specs.declared.sheets.Sheet.{Sheet}
 use Rattle.copy_csv.specs.Sheets.{column_names, kind_of, width}

@@ -3,8 +3,8 @@ use Rattle.std.specs.Prelude.{◌≡◌, ℕ, List, map, take, drop, length, Boo
 use Rattle.std.specs.List.{list_all}
 use Rattle.std.specs.Str.{bytes_eq, is_utf8}
 use Rattle.lei_code.specs.Texts.{Text}
-use Rattle.lei_records.specs.declared.fields.Kind.{Kind}
-use Rattle.lei_records.specs.Fields.{row_fields}
+use Rattle.item_fields.specs.declared.fields.Kind.{Kind}
+use Rattle.item_fields.specs.Fields.{row_fields}
 use Rattle.lei_records.specs.Spelled.{is_absent}
 use Rattle.lei_records.specs.Tables.{KeyTexts}
 use Rattle.register_words.specs.declared.sheets.Sheet.{Sheet}

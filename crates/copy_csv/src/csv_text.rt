@@ -3,7 +3,7 @@ ghost use Rattle.std.specs.Prelude.{◌≡◌, ◌<◌, ◌++◌, flat_map, leng
 ghost use Rattle.copy_csv.specs.Csv.{after_comma, csv_fields_text, csv_line, joined_line, row_line, row_start, row_tail};
 ghost use Rattle.copy_csv.specs.Records.{all_quoted};
 ghost use Rattle.copy_csv.specs.Sheets.{column_names, names_shown, width as spec_width};
-ghost use Rattle.lei_records.specs.Sheets.{read_texts};
+ghost use Rattle.item_fields.specs.Sheets.{read_texts};
 
 use crate::rows::{Row, RowTexts};
 use crate::sheets::{columns, name_at, width};

@@ -3,7 +3,7 @@ ghost use Rattle.std.specs.Prelude.{◌≡◌, ◌≤◌};
 ghost use Rattle.lei_records.specs.Rows.{text_at};
 ghost use Rattle.copy_csv.specs.Sheets as spec;
 
-use lei_records::Kind;
+use item_fields::Kind;
 use register_words::Sheet;
 
 /// The kind of the items whose rows are in a sheet.

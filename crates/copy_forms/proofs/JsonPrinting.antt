@@ -9,7 +9,7 @@ use Rattle.std.proofs.lemmas.List.{drop_all, drop_more, length-map}
 use Rattle.json.specs.Print.{print, print_from, quoted}
 use Rattle.json.specs.Token.{Token, begin_object, end_object, key, string}
 use Rattle.serde_json.specs.Written.{comma_if, members_text}
-use Rattle.lei_records.specs.Fields.{fields}
+use Rattle.item_fields.specs.Fields.{fields}
 use Rattle.lei_records.specs.Spelled.{is_absent}
 use Rattle.register_words.specs.declared.sheets.Sheet.{Sheet}
 use Rattle.copy_csv.specs.Sheets.{SheetRow, width}

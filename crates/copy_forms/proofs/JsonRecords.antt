@@ -5,7 +5,7 @@ use Rattle.std.specs.Str.{is_utf8}
 use Rattle.std.proofs.lemmas.Bool.Decides.{eqb_tells}
 use Rattle.std.proofs.lemmas.List.{get_or_at, length-map}
 use Rattle.lei_code.specs.Texts.{Text}
-use Rattle.lei_records.specs.Fields.{exception_fields, fields, relation_fields}
+use Rattle.item_fields.specs.Fields.{exception_fields, fields, relation_fields}
 use Rattle.lei_records.specs.Rows.{text_at}
 use Rattle.register_words.specs.declared.sheets.Sheet.{Sheet}
 use Rattle.copy_csv.specs.Sheets.{IsSheetRow, SheetRow, column_names, row_of_texts, width}

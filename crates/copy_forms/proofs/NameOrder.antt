@@ -7,7 +7,7 @@ use Rattle.std.specs.declared.cmp.Ordering.{Ordering}
 use Rattle.std.proofs.lemmas.Bool.{false≢true}
 use Rattle.std.proofs.lemmas.Map.Keys.{sorted_from_all_adjacent}
 use Rattle.lei_code.specs.Texts.{Text}
-use Rattle.lei_records.specs.Fields.{exception_fields, fields, relation_fields}
+use Rattle.item_fields.specs.Fields.{exception_fields, fields, relation_fields}
 use Rattle.register_words.specs.declared.sheets.Sheet.{Sheet}
 use Rattle.copy_forms.specs.Json.{json_names}
 

@@ -1,11 +1,6 @@
-pub mod SheetLemmas
-pub mod Codes
 pub mod SuccessorTexts
-pub mod RowLemmas
-pub mod NameLemmas
 pub mod PassLemmas
 pub mod OptionLemmas
 pub mod FindLemmas
-pub mod PairLemmas
 pub mod PrintedLemmas
 pub mod FieldTextLemmas

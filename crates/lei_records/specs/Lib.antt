@@ -1,12 +1,9 @@
 pub mod Places
 pub mod Rows
-pub mod Names
 pub mod SuccessorLists
 pub mod RuleNumbers
-pub mod Fields
 pub mod Checks
 pub mod Spelled
-pub mod Items
 pub mod Parts
 pub mod Relations
 pub mod Exceptions
@@ -14,4 +11,3 @@ pub mod Cells
 pub mod Tables
 pub mod Parents
 pub mod Walks
-pub mod Sheets

@@ -1,8 +1,6 @@
 -- Places: where the fields that the rules use are in a row, counted from 1, and how many fields a row has. In the
--- tables of the fields (`Fields.antt`) each field is at its place. This project's profile.
-use Rattle.std.specs.Prelude.{ℕ, List, [], ◌∷◌, codes}
-use Rattle.lei_code.specs.Texts.{Text}
-use Rattle.lei_records.specs.declared.fields.Kind.{Kind}
+-- tables of the fields (`Fields.antt` of `item_fields`) each field is at its place. This project's profile.
+use Rattle.std.specs.Prelude.{ℕ}
 
 -- ---- of a record
 
@@ -149,42 +147,3 @@ reason_place = 3
 -- The place of the field Action, which comes after the fields of the row.
 abbrev pub action_place : ℕ
 action_place = 5
-
--- ---- the names of the fields at these places
-
--- The places that the rules use, each with the name of the field there.
-abbrev pub named_places : Kind → List (ℕ × Text)
-named_places Kind.Record =
-    (lei_place, codes "LEI")
-    ∷ (authority_place, codes "Entity.RegistrationAuthority.RegistrationAuthorityID")
-    ∷ (authority_id_place, codes "Entity.RegistrationAuthority.RegistrationAuthorityEntityID")
-    ∷ (category_place, codes "Entity.EntityCategory")
-    ∷ (entity_status_place, codes "Entity.EntityStatus")
-    ∷ (created_place, codes "Entity.EntityCreationDate")
-    ∷ (successor_place, codes "Entity.SuccessorEntity.1.SuccessorLEI")
-    ∷ (initial_place, codes "Registration.InitialRegistrationDate")
-    ∷ (updated_place, codes "Registration.LastUpdateDate")
-    ∷ (status_place, codes "Registration.RegistrationStatus")
-    ∷ (renewal_place, codes "Registration.NextRenewalDate")
-    ∷ (manager_place, codes "Registration.ManagingLOU")
-    ∷ (receiver_place, codes "Register.TransferTo")
-    ∷ (event_type_place, codes "Entity.Event.1.Type")
-    ∷ (event_effective_place, codes "Entity.Event.1.EffectiveDate")
-    ∷ (event_recorded_place, codes "Entity.Event.1.RecordedDate")
-    ∷ (event_status_place, codes "Entity.Event.1.Status") ∷ []
-named_places Kind.Relation =
-    (start_place, codes "Relationship.StartNode")
-    ∷ (type_place, codes "Relationship.RelationshipType")
-    ∷ (end_place, codes "Relationship.EndNode")
-    ∷ (relation_status_place, codes "Relationship.RelationshipStatus")
-    ∷ (started_place, codes "Relationship.StartDate")
-    ∷ (ended_place, codes "Relationship.EndDate")
-    ∷ (relation_initial_place, codes "Registration.InitialRegistrationDate")
-    ∷ (relation_updated_place, codes "Registration.LastUpdateDate")
-    ∷ (registration_place, codes "Registration.RegistrationStatus")
-    ∷ (relation_manager_place, codes "Registration.ManagingLOU") ∷ []
-named_places Kind.Exception =
-    (subject_place, codes "LEI")
-    ∷ (exception_category_place, codes "ExceptionCategory")
-    ∷ (reason_place, codes "ExceptionReason")
-    ∷ (action_place, codes "Action") ∷ []

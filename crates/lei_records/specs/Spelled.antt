@@ -7,7 +7,6 @@ use Rattle.lei_shapes.specs.Clock.{moment_text}
 use Rattle.lei_shapes.specs.Lists.{record_status_of, entity_status_of, category_of, relation_type_of, relation_status_of, relation_registration_of, exception_category_of, reason_of, event_type_of, event_status_of}
 use Rattle.lei_shapes.specs.Moment.{read_moment}
 use Rattle.lei_shapes.specs.Shape.{are_different, between_spaces}
-use Rattle.lei_records.specs.declared.fields.Kind.{Kind}
 use Rattle.lei_records.specs.Places.{category_place, created_place, event_effective_place, end_place, ended_place, entity_status_place, event_status_place, event_type_place, exception_category_place, exception_places, initial_place, lei_place, manager_place, reason_place, receiver_place, record_places, event_recorded_place, registration_place, relation_initial_place, relation_manager_place, relation_places, relation_status_place, relation_updated_place, renewal_place, start_place, started_place, status_place, subject_place, successor_place, type_place, updated_place}
 use Rattle.lei_records.specs.Rows.{Row, text_at}
 
@@ -78,9 +77,3 @@ pub record IsExceptionRow (row : Row) : Type 0 where
   pub lei : IsValid (text_at row subject_place)
   pub category : IsSome (exception_category_of (text_at row exception_category_place))
   pub reason : IfSome (present (text_at row reason_place)) (IsListedText reason_of)
-
--- The row is that of an item of this kind.
-abbrev pub IsRowOfKind : Kind → Row → Type 0
-IsRowOfKind Kind.Record row = IsRecordRow row
-IsRowOfKind Kind.Relation row = IsRelationRow row
-IsRowOfKind Kind.Exception row = IsExceptionRow row

@@ -1,38 +1,28 @@
-//! The items of an upload: what was sent, the checks of its fields alone, and the record, the relationship or the
-//! exception that it is.
+//! The items of an upload after the checks of their fields: records, relationships and exceptions, each with a row of
+//! texts. What the rules see of them, and the numbers and names of all checks.
 #![tactic(auto)]
 
 mod check;
 mod copies;
 mod exception;
 mod field_texts;
-mod fields;
 mod item;
-mod laws;
 pub mod numbers;
-mod places;
+pub mod places;
 mod printed;
-mod readying;
 mod record;
 mod relation;
 mod rules;
-mod sheet;
 mod successors;
-mod tables;
 mod texts;
 mod view;
 
 pub use check::{Check, Detail};
 pub use exception::ExceptionItem;
 pub use field_texts::FieldTexts;
-pub use fields::{Content, Facts, Field, Kind, Need};
-pub use item::{Fields, Item, RawItem, Readied, Upload};
-pub use laws::{
-    events_come_with_the_third_rules, first_rules_name_one_successor, good_items_have_rows,
-    places_have_their_fields,
-};
+pub use item::{Item, Readied};
 pub use lei_shapes::{EventStatus, EventType};
-pub use readying::{ready, ready_by};
+pub use printed::Printed;
 pub use record::Record;
 pub use relation::Relation;
 pub use rules::Rules;

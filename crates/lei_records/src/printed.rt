@@ -56,7 +56,7 @@ impl Printed {
     }
 
     /// The texts, without the moments.
-    pub fn texts(&self) -> &FieldTexts
+    pub(crate) fn texts(&self) -> &FieldTexts
         ensures { result.now ≡ self.now }
     {
         &self.texts
@@ -70,7 +70,7 @@ impl Printed {
     }
 
     /// The moment that the text at a place, counted from 1, reads as.
-    pub fn moment(&self, place: usize) -> Moment
+    pub(crate) fn moment(&self, place: usize) -> Moment
         requires first { 1 ≤ place }
         requires last { place ≤ length self.now }
         requires printed { IsPrinted (text_at self.now place) }
@@ -83,7 +83,7 @@ impl Printed {
     }
 
     /// The same for a text that may be absent: `None` if it is.
-    pub fn present_moment(&self, place: usize) -> Option<Moment>
+    pub(crate) fn present_moment(&self, place: usize) -> Option<Moment>
         requires first { 1 ≤ place }
         requires last { place ≤ length self.now }
         ensures { result ≡ option_and_then read_moment (present (text_at self.now place)) }

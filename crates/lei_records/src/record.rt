@@ -71,7 +71,7 @@ impl Eq for Record {
 
 impl Record {
     /// The record with these texts, which are moved into it. They must be the row of a record.
-    pub(crate) fn of(alloc: Global, row: Printed) -> Result<Self, NoMemory>
+    pub fn of(alloc: Global, row: Printed) -> Result<Self, NoMemory>
         requires { IsRecordRow row }
         ensures { IfOk result (λ made. made ≡ row) }
     {

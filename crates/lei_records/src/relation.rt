@@ -70,7 +70,7 @@ impl Eq for Relation {
 
 impl Relation {
     /// The relationship with these texts, which are moved into it. They must be the row of a relationship.
-    pub(crate) fn of(alloc: Global, row: Printed) -> Result<Self, NoMemory>
+    pub fn of(alloc: Global, row: Printed) -> Result<Self, NoMemory>
         requires { IsRelationRow row }
         ensures { IfOk result (λ made. made ≡ row) }
     {

@@ -8,7 +8,7 @@ use Rattle.lei_shapes.specs.Moment.{IsMoment, is_moment}
 use Rattle.lei_values.specs.declared.entry.KeptEntry.{KeptEntry}
 use Rattle.upload_format.specs.Bodies.{upload}
 use Rattle.register_words.specs.declared.malformed.Malformed.{Malformed}
-use Rattle.lei_records.specs.declared.item.RawItem.{RawItem}
+use Rattle.item_fields.specs.declared.item.RawItem.{RawItem}
 use Rattle.upload_ledger.specs.History.{History, accredited, ahead, fresh, number_taken, Place, place, published, repeat_of, unknown_issuer}
 use Rattle.register_words.specs.declared.limits.Limits.{Limits}
 use Rattle.register_history.specs.Damage.{entry_line, expected_text, is_lei, is_number, replayed_text, request_in, request_text, stored_accreditation, stored_publication, stored_request, stored_upload}

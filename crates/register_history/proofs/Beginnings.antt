@@ -6,7 +6,7 @@ use Rattle.lei_values.specs.declared.entry.KeptEntry.{KeptEntry}
 use Rattle.upload_format.specs.Bodies.{upload}
 use Rattle.register_words.specs.declared.malformed.Malformed.{Malformed}
 use Rattle.register_words.specs.declared.malformed.Malformed.TheVariants.{NotJson, NotAnUpload, NoItems, TooManyItems}
-use Rattle.lei_records.specs.declared.item.RawItem.{RawItem}
+use Rattle.item_fields.specs.declared.item.RawItem.{RawItem}
 use Rattle.upload_ledger.specs.History.{History, Place, accredited, ahead, entry_numbered, fresh, is_accreditation_of, is_publication, is_upload_of, last, next_number, number_taken, place, place_of_taken, publications, published, repeat_of, unknown_issuer, upload_at, uploads}
 use Rattle.answer_texts.specs.Answers.{accreditation_text, publication_text, upload_text}
 use Rattle.register_words.specs.declared.limits.Limits.{Limits}

@@ -10,17 +10,17 @@ use Rattle.upload_format.specs.Bodies.{upload}
 use Rattle.register_words.specs.declared.malformed.Malformed.{Malformed}
 use Rattle.lei_records.specs.Checks.{FailedCheck}
 use Rattle.lei_records.specs.Cells.{has_no_event}
-use Rattle.lei_records.specs.Fields.{fields}
-use Rattle.lei_records.specs.Items.{failed_check, ready, readied_as, row_of}
+use Rattle.item_fields.specs.Fields.{fields}
+use Rattle.item_fields.specs.Items.{failed_check, ready, readied_as, row_of}
 use Rattle.lei_records.specs.RuleNumbers.{rules_of}
 use Rattle.lei_records.specs.Tables.{Table, key_cmp, record_key, row_at}
 use Rattle.lei_records.specs.Walks.{NameOne, successors_of}
-use Rattle.lei_records.specs.declared.fields.Kind.{Kind}
-use Rattle.lei_records.specs.declared.item.RawItem.{RawItem}
+use Rattle.item_fields.specs.declared.fields.Kind.{Kind}
+use Rattle.item_fields.specs.declared.item.RawItem.{RawItem}
 use Rattle.lei_records.specs.declared.item.Readied.{Readied}
 use Rattle.lei_records.specs.declared.rules.Rules.{Rules}
 use Rattle.lei_records.specs.Rows.{Row}
-use Rattle.lei_records.proofs.RowLemmas.{no_event, one_named}
+use Rattle.item_fields.proofs.RowLemmas.{no_event, one_named}
 use Rattle.successor_rules.specs.Chains.{EndsIn}
 use Rattle.successor_rules.specs.Successors.{SuccessorChainsEnd}
 use Rattle.register_judge.specs.Fitting.{EachRecord, EachRecordOf, IfRecord, ItemFits, ItemsFit, TableFits}

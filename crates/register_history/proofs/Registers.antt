@@ -14,17 +14,17 @@ use Rattle.upload_format.specs.Bodies.{of_items, of_value, upload, value_of}
 use Rattle.register_words.specs.declared.malformed.Malformed.{Malformed}
 use Rattle.register_words.specs.declared.malformed.Malformed.TheVariants.{NoItems, TooManyItems}
 use Rattle.lei_records.specs.Cells.{lei_in, rec_cell}
-use Rattle.lei_records.specs.Items.{failed_check, ready, readied_as}
+use Rattle.item_fields.specs.Items.{failed_check, ready, readied_as}
 use Rattle.lei_records.specs.Relations.{end_in, is_active_of}
-use Rattle.lei_records.specs.declared.fields.Kind.{Kind}
+use Rattle.item_fields.specs.declared.fields.Kind.{Kind}
 use Rattle.lei_shapes.specs.declared.lists.RelationType.{RelationType}
 use Rattle.lei_records.specs.Rows.{Row}
 use Rattle.lei_records.specs.Tables.{Table, key_cmp, record_key, put, put_all, put_write, row_at, row_key, active_of, relations_of, record_count, IsSoundTable}
 use Rattle.lei_records.specs.declared.item.Item.{Item}
-use Rattle.lei_records.specs.declared.item.RawItem.{RawItem}
+use Rattle.item_fields.specs.declared.item.RawItem.{RawItem}
 use Rattle.lei_records.specs.declared.item.Readied.{Readied}
 use Rattle.lei_records.specs.declared.view.CellKey.{CellKey}
-use Rattle.lei_records.proofs.RowLemmas.{IsRowOfKind-row_of}
+use Rattle.item_fields.proofs.RowLemmas.{IsRowOfKind-row_of}
 use Rattle.lei_records.specs.Checks.{FailedCheck, first_failing}
 use Rattle.lei_records.specs.Parents.{parent_type, parents_of}
 use Rattle.relation_rules.specs.Parents.{ExceptionsExcludeParents, ParentChainsEnd}

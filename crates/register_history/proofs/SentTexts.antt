@@ -22,15 +22,15 @@ use Rattle.lei_shapes.specs.Clock.{moment_text}
 use Rattle.lei_shapes.specs.Moment.{IsMoment, is_moment, moment_of_instant, read_moment, whole_seconds}
 use Rattle.lei_shapes.proofs.MomentLemmas.{IsAscii-moment_text}
 use Rattle.lei_records.specs.Checks.{FailedCheck, first_failing}
-use Rattle.lei_records.specs.Fields.{Field, row_fields}
-use Rattle.lei_records.specs.Items.{failed_check, text_in_row, ready, readied_as, row_of, row_text, text_under}
+use Rattle.item_fields.specs.Fields.{Field, row_fields}
+use Rattle.item_fields.specs.Items.{failed_check, text_in_row, ready, readied_as, row_of, row_text, text_under}
 use Rattle.lei_records.specs.Rows.{Row}
 use Rattle.lei_records.specs.Spelled.{is_absent}
 use Rattle.lei_records.specs.Tables.{KeyTexts, Table, key_cmp, put_all, put_write, row_key}
-use Rattle.lei_records.specs.declared.fields.Content.{Content}
-use Rattle.lei_records.specs.declared.fields.Kind.{Kind}
+use Rattle.item_fields.specs.declared.fields.Content.{Content}
+use Rattle.item_fields.specs.declared.fields.Kind.{Kind}
 use Rattle.lei_records.specs.declared.item.Item.{Item}
-use Rattle.lei_records.specs.declared.item.RawItem.{RawItem}
+use Rattle.item_fields.specs.declared.item.RawItem.{RawItem}
 use Rattle.lei_records.specs.declared.item.Readied.{Readied}
 use Rattle.lei_records.specs.declared.view.RowKey.{RowKey}
 use Rattle.register_judge.specs.declared.sitting.Sitting.{Sitting}

@@ -7,11 +7,11 @@ use Rattle.lei_values.specs.declared.entry.KeptEntry.{KeptEntry}
 use Rattle.upload_format.specs.Bodies.{upload}
 use Rattle.register_words.specs.declared.malformed.Malformed.{Malformed}
 use Rattle.lei_shapes.specs.Moment.{day_of}
-use Rattle.lei_records.specs.Items.{ready}
+use Rattle.item_fields.specs.Items.{ready}
 use Rattle.lei_records.specs.Rows.{Row}
 use Rattle.lei_records.specs.Tables.{Table, row_at}
 use Rattle.lei_records.specs.declared.item.Item.{Item}
-use Rattle.lei_records.specs.declared.item.RawItem.{RawItem}
+use Rattle.item_fields.specs.declared.item.RawItem.{RawItem}
 use Rattle.lei_records.specs.RuleNumbers.{rules_of}
 use Rattle.register_judge.specs.Sittings.{sitting_by}
 use Rattle.register_judge.specs.Taking.{take}

@@ -5,7 +5,7 @@ use Rattle.register_words.specs.declared.malformed.Malformed.{Malformed}
 use Rattle.lei_code.specs.Texts.{Lei, Text}
 use Rattle.lei_records.specs.Rows.{Row}
 use Rattle.lei_records.specs.Tables.{row_at}
-use Rattle.lei_records.specs.declared.item.RawItem.{RawItem}
+use Rattle.item_fields.specs.declared.item.RawItem.{RawItem}
 use Rattle.lei_values.specs.declared.entry.KeptEntry.{KeptEntry}
 use Rattle.register_state.specs.Books.{office_writes}
 use Rattle.register_state.specs.Deciding.{AddsNext, Decides, FitsNext}

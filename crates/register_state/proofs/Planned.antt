@@ -5,9 +5,9 @@ use Rattle.std.specs.Result.{result_ok}
 use Rattle.cell_reads.specs.Reads.{Agrees}
 use Rattle.lei_code.specs.Texts.{Body}
 use Rattle.lei_values.specs.declared.entry.KeptEntry.{KeptEntry}
-use Rattle.lei_records.specs.Items.{ready}
+use Rattle.item_fields.specs.Items.{ready}
 use Rattle.lei_records.specs.Tables.{IsSoundTable, Table, record_count}
-use Rattle.lei_records.specs.declared.item.RawItem.{RawItem}
+use Rattle.item_fields.specs.declared.item.RawItem.{RawItem}
 use Rattle.lei_records.specs.declared.item.Readied.{Readied}
 use Rattle.lei_shapes.specs.Moment.{day_of}
 use Rattle.register_history.specs.Register.{after, readied_items}

@@ -1,8 +1,8 @@
 -- Uploads that are judged: the outcome of their items, in their turn or ahead of it.
 use Rattle.std.specs.Prelude.{◌≡◌, List, map, Ok}
-use Rattle.lei_records.specs.Items.{ready}
+use Rattle.item_fields.specs.Items.{ready}
 use Rattle.lei_records.specs.RuleNumbers.{newest, rules_of}
-use Rattle.lei_records.specs.declared.item.RawItem.{RawItem}
+use Rattle.item_fields.specs.declared.item.RawItem.{RawItem}
 use Rattle.lei_records.specs.declared.item.Readied.{Readied}
 use Rattle.lei_shapes.specs.Moment.{day_of}
 use Rattle.register_history.specs.Register.{after}

@@ -12,9 +12,9 @@ use Rattle.std.specs.Map.{keys_of}
 use Rattle.serde_json.specs.Find.{as_str}
 use Rattle.serde_json.specs.View.{view, items_view, members_view}
 use Rattle.serde_json.specs.declared.value.Value.{Value}
-use Rattle.lei_records.specs.declared.fields.Kind.{Kind}
-use Rattle.lei_records.specs.declared.item.RawItem.{RawItem}
-use Rattle.lei_records.specs.Names.{NamesRise, names_of_fields}
+use Rattle.item_fields.specs.declared.fields.Kind.{Kind}
+use Rattle.item_fields.specs.declared.item.RawItem.{RawItem}
+use Rattle.item_fields.specs.Names.{NamesRise, names_of_fields}
 use Rattle.upload_format.specs.Bodies.{append_read, list_of, member_names, or_no_upload, raw_item_of, text_members}
 
 -- what was found, followed by what the rest gives

@@ -22,14 +22,14 @@ use Rattle.serde_json.specs.Data.{Data, Items, no_items, item, Members, no_membe
 use Rattle.serde_json.specs.Find.{get_member}
 use Rattle.serde_json.specs.Read.{of_json, of_items, of_members, read}
 use Rattle.serde_json.proofs.Views.{get_member-put, get_member-put_other}
-use Rattle.lei_records.specs.declared.fields.Kind.{Kind}
-use Rattle.lei_records.specs.declared.item.RawItem.{RawItem}
-use Rattle.lei_records.specs.Names.{NamesRise, names_of_fields}
+use Rattle.item_fields.specs.declared.fields.Kind.{Kind}
+use Rattle.item_fields.specs.declared.item.RawItem.{RawItem}
+use Rattle.item_fields.specs.Names.{NamesRise, names_of_fields}
 use Rattle.upload_format.specs.Bodies.{is_list_name, items_under, list_name, list_of, member_names, raw_item, raw_item_of, text_members, upload_items, value_of}
 use Rattle.upload_format.specs.Ordered.{AddsList, AreFields, AreListed, AreLists, AreUnder, AreValues, IsItem, IsListAt, IsListOf, IsReadAs, list_under, list_with, members_with_texts}
 use Rattle.upload_format.specs.declared.ordered.ItemValue.{ItemValue}
 use Rattle.upload_format.specs.declared.ordered.Lists.{Lists}
-use Rattle.lei_records.specs.Items.{ready}
+use Rattle.item_fields.specs.Items.{ready}
 use Rattle.lei_records.specs.declared.item.Readied.{Readied}
 use Rattle.lei_records.specs.declared.rules.Rules.{Rules}
 

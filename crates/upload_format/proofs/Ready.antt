@@ -3,8 +3,8 @@ use Rattle.std.proofs.Common.{◌≡◌, ◌==◌, List, map, length, nat_lt, Bo
 use Rattle.std.proofs.lemmas.List.{length-map}
 use Rattle.serde_json.specs.Data.{Data}
 use Rattle.lei_code.specs.Texts.{Body}
-use Rattle.lei_records.specs.Items.{ready}
-use Rattle.lei_records.specs.declared.item.RawItem.{RawItem}
+use Rattle.item_fields.specs.Items.{ready}
+use Rattle.item_fields.specs.declared.item.RawItem.{RawItem}
 use Rattle.lei_records.specs.declared.item.Readied.{Readied}
 use Rattle.lei_records.specs.declared.rules.Rules.{Rules}
 use Rattle.register_words.specs.declared.malformed.Malformed.TheVariants.{NoItems, TooManyItems}

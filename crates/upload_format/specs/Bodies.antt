@@ -10,11 +10,11 @@ use Rattle.register_words.specs.declared.malformed.Malformed.{Malformed}
 use Rattle.register_words.specs.declared.malformed.Malformed.TheVariants.{NotJson, NotAnUpload, NoItems, TooManyItems}
 use Rattle.upload_format.specs.declared.fault.UploadFault.{UploadFault}
 use Rattle.upload_format.specs.declared.fault.UploadFault.TheVariants as faults
-use Rattle.lei_records.specs.declared.fields.Kind.{Kind}
-use Rattle.lei_records.specs.declared.item.RawItem.{RawItem}
+use Rattle.item_fields.specs.declared.fields.Kind.{Kind}
+use Rattle.item_fields.specs.declared.item.RawItem.{RawItem}
 use Rattle.lei_records.specs.declared.item.Readied.{Readied}
 use Rattle.lei_records.specs.declared.rules.Rules.{Rules}
-use Rattle.lei_records.specs.Items.{ready}
+use Rattle.item_fields.specs.Items.{ready}
 
 -- The value of the bytes, if they are UTF-8 and JSON. If an object repeats a name, the last value counts.
 unfoldable pub value_of : Body → Option Data

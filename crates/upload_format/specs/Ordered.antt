@@ -9,9 +9,9 @@ use Rattle.serde_json.specs.Data.{Data, Items, Members, array, member, no_member
 use Rattle.serde_json.specs.Find.{get_member}
 use Rattle.serde_json.specs.Read.{of_items, of_json, of_members}
 use Rattle.lei_code.specs.Texts.{Text}
-use Rattle.lei_records.specs.Items.{ready}
-use Rattle.lei_records.specs.declared.fields.Kind.{Kind}
-use Rattle.lei_records.specs.declared.item.RawItem.{RawItem}
+use Rattle.item_fields.specs.Items.{ready}
+use Rattle.item_fields.specs.declared.fields.Kind.{Kind}
+use Rattle.item_fields.specs.declared.item.RawItem.{RawItem}
 use Rattle.lei_records.specs.declared.item.Readied.{Readied}
 use Rattle.lei_records.specs.declared.rules.Rules.{Rules}
 use Rattle.upload_format.specs.Bodies.{is_list_name, list_name, member_names, raw_item_of}

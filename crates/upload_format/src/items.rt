@@ -2,7 +2,7 @@
 ghost use Rattle.std.specs.Prelude.{◌≡◌};
 ghost use Rattle.upload_format.specs.Bodies;
 
-use lei_records::{Fields, Kind, RawItem};
+use item_fields::{Fields, Kind, RawItem};
 
 // The item of a kind with these fields.
 pub fn raw_item(kind: Kind, fields: Fields) -> RawItem

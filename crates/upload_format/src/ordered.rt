@@ -4,17 +4,18 @@ ghost use Rattle.std.specs.Prelude.{◌≡◌, ◌≤◌, ◌++◌, ◌∷◌, [
 ghost use Rattle.std.specs.List.{AllZip};
 ghost use Rattle.json.specs.Find.{InMembers};
 ghost use Rattle.json.specs.Json as spec;
-ghost use Rattle.lei_records.specs.Items.{ready as ready_of};
-ghost use Rattle.lei_records.specs.Names.{NamesRise};
+ghost use Rattle.item_fields.specs.Items.{ready as ready_of};
+ghost use Rattle.item_fields.specs.Names.{NamesRise};
 ghost use Rattle.lei_records.specs.RuleNumbers.{rules_of};
-ghost use Rattle.lei_records.specs.declared.fields.Kind.{Kind};
+ghost use Rattle.item_fields.specs.declared.fields.Kind.{Kind};
 ghost use Rattle.upload_format.specs.Bodies.{list_name, upload_items, value_of};
 ghost use Rattle.upload_format.specs.Ordered.{AddsList, AreFields, AreListed, AreLists, IsReadAs, list_under, list_with};
 
 use crate::items::raw_item;
 use crate::threads::map_items;
+use item_fields::{Fields, Kind, ready_by};
 use json::{Element, Error, Items, Members, Scratch, Tape};
-use lei_records::{Fields, Kind, Readied, ready_by};
+use lei_records::Readied;
 use lei_values::NoMemory;
 use std::alloc::Global;
 use std::thread::Threads;

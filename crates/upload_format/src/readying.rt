@@ -1,10 +1,11 @@
 //! Checks the fields of items that were read.
 ghost use Rattle.std.specs.Prelude.{◌≡◌, ◌≤◌, IfOk, map};
-ghost use Rattle.lei_records.specs.Items.{ready as ready_of};
+ghost use Rattle.item_fields.specs.Items.{ready as ready_of};
 ghost use Rattle.lei_records.specs.RuleNumbers.{rules_of};
 
 use crate::threads::map_items;
-use lei_records::{RawItem, Readied, ready_by};
+use item_fields::{RawItem, ready_by};
+use lei_records::Readied;
 use lei_values::NoMemory;
 use std::alloc::Global;
 use std::thread::Threads;

@@ -1,7 +1,7 @@
 use Rattle.std.proofs.Common.{◌≡◌, ◌-◌, List, false, length, take, drop, sym, ap, subst, ◌∙◌, arith}
 use Rattle.std.specs.Prelude.{IfOk, flat_map}
 use Rattle.lei_code.specs.Texts.{Text}
-use Rattle.lei_records.specs.Sheets.{read_texts}
+use Rattle.item_fields.specs.Sheets.{read_texts}
 use Rattle.copy_csv.specs.Csv.{after_comma, csv_fields_text}
 use Rattle.copy_csv.specs.Sheets.{column_count, left_out, shown_texts, width}
 use Rattle.copy_csv.proofs.RecordLemmas.{lent-part, lent-rest}

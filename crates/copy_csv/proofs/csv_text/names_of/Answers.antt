@@ -2,7 +2,7 @@ use Rattle.std.proofs.Common.{◌≡◌, ◌<◌, ◌≤◌, ℕ, List, length, 
 use Rattle.std.proofs.lemmas.List.{length-set}
 use Rattle.lei_code.specs.Texts.{Text}
 use Rattle.copy_csv.specs.Sheets.{column_names, width}
-use Rattle.lei_records.specs.Sheets.{read_texts}
+use Rattle.item_fields.specs.Sheets.{read_texts}
 use Rattle.copy_csv.proofs.LineLemmas.{column_names-full}
 use Rattle.copy_csv.proofs.RecordLemmas.{lent-all, lent-step, width-most}
 use Rattle.copy_csv.proofs.csv_text.names_of.Goals as goal

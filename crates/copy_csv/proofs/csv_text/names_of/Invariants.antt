@@ -1,6 +1,6 @@
 use Rattle.std.proofs.Common.{◌≡◌, length, take}
 use Rattle.copy_csv.specs.Sheets.{column_names}
-use Rattle.lei_records.specs.Sheets.{read_texts}
+use Rattle.item_fields.specs.Sheets.{read_texts}
 use Rattle.copy_csv.proofs.csv_text.names_of.Given as goal
 
 -- the names up to the index are the sheet's, and there is room for 32

@@ -1,5 +1,5 @@
 use Rattle.std.proofs.Common.{◌++◌, ap, ◌∙◌}
-use Rattle.lei_records.specs.Sheets.{read_texts}
+use Rattle.item_fields.specs.Sheets.{read_texts}
 use Rattle.copy_csv.specs.Csv.{csv_line}
 use Rattle.copy_csv.proofs.RecordLemmas.{lent-some, csv_line-open, csv_line-nonempty}
 use Rattle.copy_csv.proofs.csv_text.open_line.Goals as goal

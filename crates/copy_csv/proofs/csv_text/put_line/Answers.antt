@@ -1,6 +1,6 @@
 use Rattle.std.proofs.Common.{◌≡◌, ap, sym, ◌∙◌}
 use Rattle.copy_csv.specs.Records.{all_quoted}
-use Rattle.lei_records.specs.Sheets.{read_texts}
+use Rattle.item_fields.specs.Sheets.{read_texts}
 use Rattle.copy_csv.proofs.RecordLemmas.{csv_line-put, lent-some}
 use Rattle.copy_csv.proofs.csv_text.put_line.Goals as goal
 

@@ -1,7 +1,7 @@
 use Rattle.std.proofs.Common.{◌≡◌, ◌≤◌, List, ◌++◌, length, take, ap, subst, ◌∙◌, arith}
 use Rattle.std.specs.Prelude.{OnOk}
 use Rattle.lei_code.specs.Texts.{Text}
-use Rattle.lei_records.specs.Sheets.{read_texts}
+use Rattle.item_fields.specs.Sheets.{read_texts}
 use Rattle.copy_csv.specs.Csv.{csv_line}
 use Rattle.copy_csv.specs.Sheets.{column_count, column_names, names_shown, width}
 use Rattle.copy_csv.proofs.LineLemmas.{column_names-full}

@@ -1,6 +1,6 @@
 use Rattle.std.proofs.Common.{◌≡◌, ◌++◌, List, ℕ, length, sym, ap, ◌∙◌}
 use Rattle.lei_code.specs.Texts.{Text}
-use Rattle.lei_records.specs.Sheets.{read_texts}
+use Rattle.item_fields.specs.Sheets.{read_texts}
 use Rattle.copy_csv.specs.Csv.{csv_line}
 use Rattle.copy_csv.specs.Records.{all_quoted}
 use Rattle.copy_csv.proofs.RecordLemmas.{csv_line-put, flushed, lent-some}

@@ -1,5 +1,5 @@
 use Rattle.std.proofs.Common.{◌≡◌, length, take}
-use Rattle.lei_records.specs.Sheets.{read_texts}
+use Rattle.item_fields.specs.Sheets.{read_texts}
 use Rattle.copy_csv.proofs.csv_text.texts_of.Given as goal
 
 -- the texts up to the index are those of the row, and there is room for 32

@@ -1,6 +1,6 @@
 use Rattle.std.proofs.Common.{◌≡◌, ◌-◌, ◌++◌, length, ap, ◌∙◌, arith}
 use Rattle.std.specs.List.{slice_range}
-use Rattle.lei_records.specs.Sheets.{read_texts}
+use Rattle.item_fields.specs.Sheets.{read_texts}
 use Rattle.copy_csv.proofs.RecordLemmas.{further-put, lent-some, lines-back, lines-front, two-lines}
 use Rattle.copy_csv.proofs.csv_text.two_texts.Goals as goal
 

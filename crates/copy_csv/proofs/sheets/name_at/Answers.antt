@@ -1,5 +1,5 @@
 use Rattle.std.proofs.Common.{ap, refl, ◌∙◌}
-use Rattle.lei_records.specs.Fields.{names_of}
+use Rattle.item_fields.specs.Fields.{names_of}
 use Rattle.copy_csv.proofs.SheetLemmas.{name-at, name-bound}
 use Rattle.copy_csv.proofs.sheets.name_at.Goals as goal
 

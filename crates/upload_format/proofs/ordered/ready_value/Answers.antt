@@ -1,7 +1,7 @@
 use Rattle.std.proofs.Common.{IfSome, ap, subst, ◌∙◌}
 use Rattle.json.specs.Find.{InMembers}
 use Rattle.json.specs.Json.{Members}
-use Rattle.lei_records.specs.Items.{ready}
+use Rattle.item_fields.specs.Items.{ready}
 use Rattle.lei_records.specs.RuleNumbers.{rules_of}
 use Rattle.upload_format.specs.Bodies.{raw_item}
 use Rattle.upload_format.specs.Ordered.{AreFields}

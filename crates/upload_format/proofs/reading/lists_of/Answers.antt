@@ -1,5 +1,5 @@
 use Rattle.std.proofs.Common.{refl, ◌∙◌}
-use Rattle.lei_records.specs.declared.fields.Kind.{Kind}
+use Rattle.item_fields.specs.declared.fields.Kind.{Kind}
 use Rattle.upload_format.specs.Bodies.{list_name}
 use Rattle.upload_format.proofs.reading.lists_of.Goals as goal
 

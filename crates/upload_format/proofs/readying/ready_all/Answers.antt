@@ -1,4 +1,4 @@
-use Rattle.lei_records.specs.Items.{ready}
+use Rattle.item_fields.specs.Items.{ready}
 use Rattle.lei_records.specs.RuleNumbers.{rules_of}
 use Rattle.upload_format.proofs.InThreads.{all_made, if_ok}
 use Rattle.upload_format.proofs.readying.ready_all.Goals as goal

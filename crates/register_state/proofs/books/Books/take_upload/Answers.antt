@@ -1,6 +1,6 @@
 use Rattle.std.proofs.Common.{◌≤◌, ap, length, subst, sym, ◌∙◌}
 use Rattle.std.proofs.lemmas.List.{length-map}
-use Rattle.lei_records.specs.Items.{ready}
+use Rattle.item_fields.specs.Items.{ready}
 use Rattle.lei_records.specs.RuleNumbers.{rules_of}
 use Rattle.upload_format.specs.Bodies.{ready_upload}
 use Rattle.upload_format.proofs.Ready.{ready-raws}

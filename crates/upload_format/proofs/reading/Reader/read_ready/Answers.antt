@@ -1,5 +1,5 @@
 use Rattle.std.proofs.Common.{◌≡◌, IfSome, Some, map, option_and_then, option_map, subst, sym}
-use Rattle.lei_records.specs.Items.{ready}
+use Rattle.item_fields.specs.Items.{ready}
 use Rattle.lei_records.specs.RuleNumbers.{rules_of}
 use Rattle.upload_format.specs.Bodies.{BodyGives, upload_items, value_of}
 use Rattle.upload_format.proofs.Ready.{ready-counted}

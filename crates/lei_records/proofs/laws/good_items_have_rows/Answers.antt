@@ -1,5 +1,0 @@
-use Rattle.lei_records.proofs.RowLemmas.{IsRowOfKind-row_of}
-use Rattle.lei_records.proofs.laws.good_items_have_rows.Goals as goal
-
-pub returns : goal.returns
-returns c = IsRowOfKind-row_of
