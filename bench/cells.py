@@ -14,10 +14,10 @@ import subprocess
 import sys
 import tempfile
 
+from below import below
 from moving import BACK, copy
 
 ROOT = pathlib.Path(__file__).resolve().parent.parent
-BELOW = ["lei_outside", "store_statements", "store_tables", "keeper_sqlite"]
 NAME = "cells_bench"
 RUNS = 5
 
@@ -25,15 +25,20 @@ RUNS = 5
 def build(folder, commit):
     """The program over the keeper of a commit, proved and built."""
     folder.mkdir()
-    files = subprocess.run(["git", "archive", commit, "crates.txt", *(f"crates/{each}" for each in BELOW)], cwd=ROOT, check=True,
+    lines = subprocess.run(["git", "show", f"{commit}:crates.txt"], cwd=ROOT, check=True, stdout=subprocess.PIPE,
+                           text=True).stdout.splitlines()
+    crates = below(lines, {"keeper_sqlite"})
+    files = subprocess.run(["git", "archive", commit, *(f"crates/{each}" for each in sorted(crates))], cwd=ROOT, check=True,
                            stdout=subprocess.PIPE).stdout
     subprocess.run(["tar", "x", "--exclude=must-fail"], cwd=folder, check=True, input=files)
     source = folder / "crates" / NAME / "src"
     source.mkdir(parents=True)
-    (source / "main.rt").write_bytes(pathlib.Path(__file__).with_name("cells.txt").read_bytes())
-    lines = (folder / "crates.txt").read_text().splitlines()
-    kept = [line for line in lines if line.split(":")[0] in BELOW]
-    (folder / "crates.txt").write_text("\n".join(kept + [f"{NAME}: lei_outside keeper_sqlite anyhow"]) + "\n")
+    # Earlier commits have the trait of a keeper in the crate of the other devices.
+    trait = "lei_keeper" if "lei_keeper" in crates else "lei_outside"
+    text = pathlib.Path(__file__).with_name("cells.txt").read_text()
+    (source / "main.rt").write_text(text.replace("lei_keeper::", f"{trait}::"))
+    kept = [line for line in lines if line.split(":")[0] in crates]
+    (folder / "crates.txt").write_text("\n".join(kept + [f"{NAME}: {trait} keeper_sqlite anyhow"]) + "\n")
     subprocess.run(["git", "init", "-q"], cwd=folder, check=True)
     done = subprocess.run(["rt", "run", "--", "none"], cwd=folder / "crates" / NAME, capture_output=True, text=True)
     program = folder / "crates" / NAME / "out" / NAME

@@ -20,8 +20,9 @@ import subprocess
 import sys
 import tempfile
 
+from below import below
+
 ROOT = pathlib.Path(__file__).resolve().parent.parent
-BELOW = ["lei_outside", "lei_code", "lei_shapes", "lei_records", "item_fields", "copy_csv", "copy_forms"]
 NAME = "copies_bench"
 RUNS = 8
 TICKS = os.sysconf("SC_CLK_TCK")
@@ -30,14 +31,15 @@ TICKS = os.sysconf("SC_CLK_TCK")
 def build(folder):
     """The program, proved and built."""
     crates = folder / "crates"
-    for crate in BELOW:
+    lines = (ROOT / "crates.txt").read_text().splitlines()
+    crates_below = below(lines, {"copy_forms"})
+    for crate in sorted(crates_below):
         shutil.copytree(ROOT / "crates" / crate, crates / crate, ignore=shutil.ignore_patterns("out", "must-fail"))
     source = crates / NAME / "src"
     source.mkdir(parents=True)
     shutil.copy(pathlib.Path(__file__).with_name("copies.txt"), source / "main.rt")
-    lines = (ROOT / "crates.txt").read_text().splitlines()
-    kept = [line for line in lines if line.split(":")[0] in BELOW]
-    kept.append(f"{NAME}: lei_outside lei_shapes copy_forms anyhow")
+    kept = [line for line in lines if line.split(":")[0] in crates_below]
+    kept.append(f"{NAME}: lei_shapes copy_forms anyhow")
     (folder / "crates.txt").write_text("\n".join(kept) + "\n")
     subprocess.run(["git", "init", "-q"], cwd=folder, check=True)
     command = ["rt", "run", "--", "print", "1", folder / "csv", folder / "json"]

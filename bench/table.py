@@ -20,9 +20,10 @@ import subprocess
 import sys
 import tempfile
 
+from below import below
+
 ROOT = pathlib.Path(__file__).resolve().parent.parent
 PROGRAM = ROOT / "crates" / "leireg" / "out" / "leireg"
-BELOW = ["lei_outside", "lei_code", "lei_shapes", "lei_records", "item_fields", "register_words", "worker_pool", "upload_format"]
 NAME = "table_bench"
 OFFICE = "506700GE1G29325QX363"
 RECORDS = 4400
@@ -60,14 +61,15 @@ def code(number):
 def build(folder):
     """The program that reads bodies and makes their records ready, proved and built."""
     crates = folder / "crates"
-    for crate in BELOW:
+    lines = (ROOT / "crates.txt").read_text().splitlines()
+    crates_below = below(lines, {"upload_format"})
+    for crate in sorted(crates_below):
         shutil.copytree(ROOT / "crates" / crate, crates / crate, ignore=shutil.ignore_patterns("must-fail"))
     source = crates / NAME / "src"
     source.mkdir(parents=True)
     shutil.copy(pathlib.Path(__file__).with_name("table.txt"), source / "main.rt")
-    lines = (ROOT / "crates.txt").read_text().splitlines()
-    kept = [line for line in lines if line.split(":")[0] in BELOW]
-    kept.append(f"{NAME}: lei_outside lei_records upload_format anyhow")
+    kept = [line for line in lines if line.split(":")[0] in crates_below]
+    kept.append(f"{NAME}: lei_records upload_format anyhow")
     (folder / "crates.txt").write_text("\n".join(kept) + "\n")
     subprocess.run(["git", "init", "-q"], cwd=folder, check=True)
     done = subprocess.run(["rt", "run"], cwd=crates / NAME, capture_output=True, text=True)
