@@ -1,5 +1,5 @@
-//! The fields of the items of an upload: what was sent, the tables of the fields, and their checks, which give the record,
-//! the relationship or the exception that an item is.
+//! The fields of the items of an upload: what was sent, the tables of the fields, and their checks, which give the
+//! record, the relationship or the exception that an item is.
 #![tactic(auto)]
 
 mod fields;
