@@ -20,11 +20,11 @@ from readmes import CALL, CLAUSE, ROOT, block_name, crates, exports, lines_of
 
 PAGE = ROOT / "docs" / "CALLS.md"
 MARK = "<!-- what follows is made by docs/calls.py -->"
-APART = {"example_sessions", "worked_examples", "register_tests", "leireg", "leireg_lines"}
+APART = {"example_sessions", "worked_examples", "device_tests", "office_tests", "file_tests", "leireg", "leireg_lines"}
 VARIANT = re.compile(r"^    (\w+)(?:\((.*)\)|(?: \{.*)?),?$")
 # The types of results whose variants say how a call ended.
 OUTCOMES = [
-    "example_sessions.Place", "http_heads.HeadRead", "issuer_http.Ended", "issuer_http.HttpRead", "lei_outside.Came",
+    "http_heads.HeadRead", "issuer_http.Ended", "issuer_http.HttpRead", "lei_outside.Came",
     "lei_records.Readied", "lei_records.Seen", "leireg_serve.DeskEnd", "register_judge.JudgeStop",
     "relation_rules.Checked", "request_loop.Ended", "successor_rules.Walked", "upload_ledger.Place",
 ]

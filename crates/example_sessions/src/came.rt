@@ -1,5 +1,6 @@
 //! The result of a run.
-ghost use Rattle.std.specs.Prelude.{◌≡◌, ◌↔◌, IsTrue};
+ghost use Rattle.std.specs.Prelude.{◌≡◌, ◌↔◌, IsTrue, nat_eq};
+ghost use Rattle.std.specs.List.{starts_with};
 
 use crate::run::Run;
 use lei_values::Bytes;
@@ -18,5 +19,13 @@ impl Came {
             ((self.now.written ≡ wanted.now.expected) × (self.now.status ≡ wanted.now.status)) }
     {
         self.status == wanted.status() && self.written.as_slice() == wanted.expected()
+    }
+
+    /// Whether the run ended with this status, and wrote the bytes that must come back or a front of them.
+    pub fn is_front(&self, wanted: &Run, status: u8) -> bool
+        ensures { IsTrue result ↔
+            (IsTrue (starts_with nat_eq wanted.now.expected self.now.written) × (self.now.status ≡ status)) }
+    {
+        self.status == status && wanted.expected().starts_with(self.written.as_slice())
     }
 }

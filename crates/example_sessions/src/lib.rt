@@ -2,21 +2,22 @@
 #![tactic(auto)]
 
 mod came;
+mod changes;
 mod codes;
-mod cuts;
 mod document;
 mod fault;
 mod filling;
-mod numbers;
+mod repeating;
 mod run;
 mod session;
 mod telling;
 mod texts;
 
 pub use came::Came;
+pub use changes::{CellChange, CellName, Change, EntryChange};
 pub use document::{Document, LineFault};
 pub use fault::Fault;
-pub use run::{Change, RulesChange, Run};
+pub use run::Run;
 pub use session::Session;
-pub use telling::{Trial, is_wanted};
+pub use telling::{Trial, is_cut_short, is_wanted};
 pub use texts::Named;

@@ -1,5 +1,6 @@
 //! The report on a run whose result isn't the required one.
-ghost use Rattle.std.specs.Prelude.{◌≡◌, ◌↔◌, IfOk, IsTrue};
+ghost use Rattle.std.specs.Prelude.{◌≡◌, ◌↔◌, IfOk, IsTrue, nat_eq};
+ghost use Rattle.std.specs.List.{starts_with};
 
 use crate::came::Came;
 use crate::run::Run;
@@ -32,6 +33,29 @@ pub fn is_wanted<R: Print + AllocGlobal>(
     let Trial { file, title, size } = trial;
     println!(rt; "{file}: {title}: FAILED by at most {size} bytes")?;
     tell_difference(rt, alloc, run, came)?;
+    Ok(false)
+}
+
+/// Whether a run ended with the status of a fault, and wrote a front of what must come back. If it didn't, that is
+/// printed, with the trial that it was made in and the call that failed.
+pub fn is_cut_short<R: Print + AllocGlobal>(
+    rt: &R,
+    trial: Trial<'_>,
+    run: &Run,
+    came: &Came,
+    status: u8,
+    call: u64,
+) -> io::Result<bool>
+    ensures { IfOk result (λ cut. IsTrue cut
+        ↔ (IsTrue (starts_with nat_eq run.now.expected came.now.written) × (came.now.status ≡ status))) }
+{
+    if came.is_front(run, status) {
+        return Ok(true);
+    }
+    let Trial { file, title, size } = trial;
+    let ended = came.status;
+    println!(rt; "{file}: {title}: FAILED by at most {size} bytes, with call {call} failing")?;
+    println!(rt; "  status {ended} came, and {status} was expected, with a front of the replies")?;
     Ok(false)
 }
 

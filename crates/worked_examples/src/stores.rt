@@ -1,7 +1,7 @@
 //! Stores in memory, which the runs of a session leave to later ones.
-use example_sessions::{Change, RulesChange, Run};
+use example_sessions::{CellChange, CellName, Change, EntryChange, Run};
 use lei_keeper::{KeepFault, Keeper};
-use lei_values::{Bytes, KeptCell, KeptEntry, List, NoMemory, Text};
+use lei_values::{Bytes, KeptCell, KeptEntry, List, NoMemory, Shared, Text};
 use memory_devices::{MapKeeper, may_be_kept};
 use program_words::wanted_run;
 use std::alloc::Global;
@@ -36,8 +36,8 @@ pub fn path_of<'a>(alloc: Global, run: &'a Run) -> Option<&'a str> {
 /// The keeper of a run: what the last run with its path left among these, with what is changed of it, or nothing.
 pub fn keeper_of(alloc: Global, stores: &[Store], run: &Run) -> Result<MapKeeper, KeepFault> {
     let store = store_of(alloc, stores, run);
-    let entries = entries_with(alloc, entries_in(store), run)?;
-    let cells = copies(alloc, cells_in(store))?;
+    let entries = entries_with(alloc, entries_in(store), run.changes())?;
+    let cells = cells_with(alloc, cells_in(store), run.changes())?;
     if !may_be_kept(entries.as_slice(), cells.as_slice()) {
         return Err(KeepFault::Failed);
     }
@@ -66,47 +66,124 @@ fn cells_in<'a>(store: Option<&'a Store>) -> &'a [KeptCell] {
     }
 }
 
+// ---- entries
+
 fn entries_with(
     alloc: Global,
     entries: &[KeptEntry],
-    run: &Run,
+    changes: &[Change],
 ) -> Result<List<KeptEntry>, NoMemory> {
     let mut list = Vec::new(alloc);
     for entry in entries {
-        let mut entry = change_entry(alloc, entry.copy(alloc)?, run.changes())?;
-        entry.rules = rules_with(entry.seq, entry.rules, run.rules());
-        list.push(entry)?;
+        if let Some(entry) = entry_with(alloc, entry.copy(alloc)?, changes)? {
+            list.push(entry)?;
+        }
     }
     Ok(List::from(list))
+}
+
+// An entry after these changes, if it isn't removed.
+fn entry_with(
+    alloc: Global,
+    mut entry: KeptEntry,
+    changes: &[Change],
+) -> Result<Option<KeptEntry>, NoMemory> {
+    for change in changes {
+        match change {
+            Change::Entry(seq, EntryChange::Gone) if *seq == entry.seq => return Ok(None),
+            Change::Entry(seq, change) if *seq == entry.seq => {
+                change_entry(alloc, &mut entry, change)?;
+            }
+            _ => {}
+        }
+    }
+    Ok(Some(entry))
 }
 
 fn change_entry(
     alloc: Global,
-    mut entry: KeptEntry,
+    entry: &mut KeptEntry,
+    change: &EntryChange,
+) -> Result<(), NoMemory> {
+    match change {
+        EntryChange::Gone => {}
+        EntryChange::Answer(answer) => entry.answer = Bytes::copy_of(alloc, answer.as_slice())?,
+        EntryChange::Number(number) => entry.number = *number,
+        EntryChange::Moment(moment) => entry.moment = *moment,
+        EntryChange::Rules(rules) => entry.rules = *rules,
+    }
+    Ok(())
+}
+
+// ---- cells
+
+// The cells after these changes. A cell that is touched and isn't among them is added without a row.
+fn cells_with(
+    alloc: Global,
+    cells: &[KeptCell],
     changes: &[Change],
-) -> Result<KeptEntry, NoMemory> {
-    for change in changes {
-        if u64::from(change.entry) == entry.seq {
-            entry.answer = Bytes::copy_of(alloc, change.answer.as_slice())?;
-        }
-    }
-    Ok(entry)
-}
-
-// The rules of the entry of this number after these changes.
-fn rules_with(seq: u64, mut rules: u16, changes: &[RulesChange]) -> u16 {
-    for change in changes {
-        if u64::from(change.entry) == seq {
-            rules = change.rules;
-        }
-    }
-    rules
-}
-
-fn copies(alloc: Global, cells: &[KeptCell]) -> Result<List<KeptCell>, NoMemory> {
+) -> Result<List<KeptCell>, NoMemory> {
     let mut list = Vec::new(alloc);
     for cell in cells {
-        list.push(cell.copy(alloc)?)?;
+        if let Some(cell) = cell_with(alloc, cell.copy(alloc)?, changes)? {
+            list.push(cell)?;
+        }
+    }
+    for change in changes {
+        if let Some(cell) = added_cell(alloc, cells, change)? {
+            list.push(cell)?;
+        }
     }
     Ok(List::from(list))
+}
+
+// A cell after these changes, if it isn't removed.
+fn cell_with(
+    alloc: Global,
+    mut cell: KeptCell,
+    changes: &[Change],
+) -> Result<Option<KeptCell>, NoMemory> {
+    for change in changes {
+        match change {
+            Change::Cell(name, CellChange::Gone) if is_named(&cell, name) => return Ok(None),
+            Change::Cell(name, CellChange::Touched(touched)) if is_named(&cell, name) => {
+                cell.touched = *touched;
+            }
+            Change::Cell(name, CellChange::Row(row)) if is_named(&cell, name) => {
+                cell.row = row_copy(alloc, row)?;
+            }
+            _ => {}
+        }
+    }
+    Ok(Some(cell))
+}
+
+fn row_copy(alloc: Global, row: &Option<Shared>) -> Result<Option<Shared>, NoMemory> {
+    match row {
+        Some(row) => Ok(Some(Shared::copy_of(alloc, row.as_slice())?)),
+        None => Ok(None),
+    }
+}
+
+fn added_cell(
+    alloc: Global,
+    cells: &[KeptCell],
+    change: &Change,
+) -> Result<Option<KeptCell>, NoMemory> {
+    match change {
+        Change::Cell(name, CellChange::Touched(touched))
+            if !cells.iter().any(|cell| is_named(cell, name)) => {
+            Ok(Some(KeptCell {
+                kind: name.kind,
+                name: Bytes::copy_of(alloc, name.name.as_slice())?,
+                touched: *touched,
+                row: None,
+            }))
+        }
+        _ => Ok(None),
+    }
+}
+
+fn is_named(cell: &KeptCell, name: &CellName) -> bool {
+    cell.kind == name.kind && cell.name.as_slice() == name.name.as_slice()
 }

@@ -5,33 +5,56 @@ use crate::stores::{Store, keeper_of, path_of};
 use example_sessions::{Came, Run};
 use lei_keeper::{KeepFault, Keeper};
 use lei_outside::Sink;
-use lei_values::{Bytes, NoMemory};
+use lei_values::{Bytes, List, NoMemory};
 use leireg_run::run;
-use memory_devices::{ListClock, SureSink, SureSource};
+use memory_devices::{ByteSink, ByteSource, ListClock, MapKeeper, SureSource};
 use std::alloc::Global;
 use std::thread::Threads;
+
+/// A kind of call that may fail.
+#[derive(Clone, Copy, PartialEq, Eq)]
+pub enum Call {
+    /// A read of the input.
+    Read,
+    /// A write.
+    Write,
+}
+
+/// A call that fails in addition to those that a run names, by its number.
+#[derive(Clone, Copy)]
+pub struct Failing {
+    pub call: Call,
+    pub number: u64,
+}
 
 // What a run is made with, beside its keeper.
 #[derive(Drop)]
 struct Devices {
-    source: SureSource,
+    source: ByteSource,
     second: SureSource,
-    sink: SureSink,
+    sink: ByteSink,
     clock: ListClock,
 }
 
 impl Devices {
     // Those of a run, with at most so many bytes a read and a write.
-    fn of(alloc: Global, wanted: &Run, most: usize) -> Result<Self, NoMemory>
+    fn of(
+        alloc: Global,
+        wanted: &Run,
+        most: usize,
+        failing: Option<Failing>,
+    ) -> Result<Self, NoMemory>
         requires { 1 ≤ most }
     {
         let sent = Bytes::copy_of(alloc, wanted.sent())?;
         let second = Bytes::copy_of(alloc, wanted.second())?;
+        let reads = numbers_with(alloc, wanted.failing_reads(), Call::Read, failing)?;
+        let writes = numbers_with(alloc, wanted.failing_writes(), Call::Write, failing)?;
         let clock = wanted.clock(alloc)?;
         Ok(Devices {
-            source: SureSource::new(sent, most),
+            source: ByteSource::new(sent, most, reads),
             second: SureSource::new(second, most),
-            sink: SureSink::new(alloc, most),
+            sink: ByteSink::new(alloc, most, writes),
             clock,
         })
     }
@@ -64,6 +87,39 @@ impl Devices {
     }
 }
 
+// These numbers, and the one of the further call if it is of this kind.
+fn numbers_with(
+    alloc: Global,
+    numbers: &[u64],
+    call: Call,
+    failing: Option<Failing>,
+) -> Result<List<u64>, NoMemory> {
+    let mut numbers = numbers.to_vec(alloc)?;
+    match failing {
+        Some(failing) if failing.call == call => numbers.push(failing.number)?,
+        _ => {}
+    }
+    Ok(List::from(numbers))
+}
+
+// Makes a run over a keeper in memory that has what these stores leave to it. Returns what came of it, and the keeper.
+fn run_over<R: Threads + Sync>(
+    rt: &R,
+    alloc: Global,
+    wanted: &Run,
+    most: usize,
+    stores: &[Store],
+    failing: Option<Failing>,
+) -> Result<(Came, MapKeeper), KeepFault>
+    requires { 1 ≤ most }
+{
+    let mut devices = Devices::of(alloc, wanted, most, failing)?;
+    let keeper = keeper_of(alloc, stores, wanted)?;
+    let (status, keeper) = devices.run(rt, alloc, wanted, keeper);
+    let came = devices.result_with_status(alloc, status)?;
+    Ok((came, keeper))
+}
+
 /// Makes a run over a keeper in memory. What it leaves at the path of its store is put after these stores.
 pub fn run_in_memory<R: Threads + Sync>(
     rt: &R,
@@ -74,11 +130,24 @@ pub fn run_in_memory<R: Threads + Sync>(
 ) -> Result<Came, KeepFault>
     requires { 1 ≤ most }
 {
-    let mut devices = Devices::of(alloc, wanted, most)?;
-    let keeper = keeper_of(alloc, stores.as_slice(), wanted)?;
-    let (status, mut keeper) = devices.run(rt, alloc, wanted, keeper);
+    let (came, mut keeper) = run_over(rt, alloc, wanted, most, stores.as_slice(), None)?;
     if let Some(path) = path_of(alloc, wanted) {
         stores.push(Store::of(alloc, path, &mut keeper)?)?;
     }
-    Ok(devices.result_with_status(alloc, status)?)
+    Ok(came)
+}
+
+/// Makes a run over a keeper in memory in which one more call fails. What it leaves is dropped.
+pub fn run_with_fault<R: Threads + Sync>(
+    rt: &R,
+    alloc: Global,
+    wanted: &Run,
+    most: usize,
+    stores: &[Store],
+    failing: Failing,
+) -> Result<Came, KeepFault>
+    requires { 1 ≤ most }
+{
+    let (came, _) = run_over(rt, alloc, wanted, most, stores, Some(failing))?;
+    Ok(came)
 }

@@ -1,0 +1,43 @@
+//! Lines from an input that has no end.
+use crate::still::Still;
+use lei_outside::{Failed, Source};
+use line_reading::Stop;
+use line_service::run_lines;
+use memory_devices::{SureKeeper, SureSink};
+use std::alloc::Global;
+use std::mem::forget;
+use std::test::Fail;
+use std::thread::Threads;
+
+// An endless source of one byte. It tells nothing of its bytes.
+#[derive(Drop)]
+struct Endless;
+
+impl Source for Endless {
+    ghost use Rattle.std.specs.Prelude.{None};
+
+    ghost left = { λ _. None };
+
+    ghost faults = { λ _. 0 };
+
+    fn read(&mut self, buffer: &mut [u8]) -> Result<usize, Failed> {
+        buffer.fill(b'x');
+        Ok(buffer.len())
+    }
+}
+
+// How a run over such an input ends. The keeper isn't dropped, since dropping it costs a proof for each of its parts.
+fn end_of_run<R: Threads + Sync>(rt: &R, alloc: Global, sink: &mut SureSink) -> Result<(), Stop> {
+    let keeper = SureKeeper::new(alloc);
+    let (ended, keeper) = run_lines(rt, alloc, &mut Endless, sink, keeper, &mut Still);
+    forget(keeper);
+    ended
+}
+
+#[test]
+fn a_run_ends_at_the_greatest_input(rt: HostRuntime) -> Result<(), Fail> {
+    let mut sink = SureSink::new(rt.alloc(), usize::MAX);
+    let ended = end_of_run(&rt, rt.alloc(), &mut sink);
+    assert!(rt; matches!(ended, Err(Stop::InputTooLong)) && sink.written().is_empty());
+    Ok(())
+}

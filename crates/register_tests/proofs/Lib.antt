@@ -1,2 +1,0 @@
-pub mod PassNumbers
-mod OctetLemmas

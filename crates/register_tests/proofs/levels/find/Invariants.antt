@@ -1,7 +1,0 @@
-use Rattle.std.proofs.Common.{◌≡◌, drop}
-use Rattle.register_tests.specs.Webs.{named_at}
-use Rattle.register_tests.proofs.levels.find.Given as goal
-
--- what the rest has is what all rows have
-abbrev pub invariant-loop-from : goal.invariant-loop-from
-invariant-loop-from l = named_at (drop l.from-index l.rows) l.lei ≡ named_at l.rows l.lei

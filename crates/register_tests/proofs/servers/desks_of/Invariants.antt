@@ -1,5 +1,0 @@
-use Rattle.std.specs.Prelude.{◌≡◌, false, length, All}
-use Rattle.register_tests.proofs.servers.desks_of.Given as goal
-
-abbrev pub invariant-loop-number : goal.invariant-loop-number
-invariant-loop-number l = (length l.desks.items ≡ l.number) × All (λ desk. desk.door.out ≡ false) l.desks.items

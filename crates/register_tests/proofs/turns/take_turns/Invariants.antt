@@ -1,5 +1,0 @@
-use Rattle.std.proofs.Common.{◌≡◌}
-use Rattle.register_tests.proofs.turns.take_turns.Given as goal
-
-abbrev pub invariant-loop-turn : goal.invariant-loop-turn
-invariant-loop-turn g l = (l.pass.table ≡ l.fn.pass.table) × (l.pass.number ≡ l.fn.pass.number)

@@ -1,3 +1,0 @@
-pub mod Octets
-pub mod OctetsStay
-pub mod Webs
