@@ -103,6 +103,15 @@ content-type: text/plain
 content-length: 4
 connection: close
 
+HEAD^two lengths that differ, the smaller one first~BadHead~GET /v1/status HTTP/1.1
+Content-Length: 1
+Content-Length: 2
+
+~HTTP/1.1 400 Bad Request
+content-type: text/plain
+content-length: 4
+connection: close
+
 HEAD^two lengths that are alike~Closed~GET /v1/status HTTP/1.1
 Content-Length: 5
 Content-Length: 05
