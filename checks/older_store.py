@@ -1,9 +1,10 @@
 #!/usr/bin/env python3
-"""Makes crates/leireg/data/register.db again: a store of form 1, as the first programs made it, with entries by rules 1 and 2.
+"""Makes crates/leireg/data/register.db again: a store of form 1, as the first programs made it, with entries by rules 1
+and 2.
 
-The tables are made by the statements of the first form, and each entry and cell is what docs/FORMATS.md and docs/RULES.md say
-that it is. Nothing comes from the register itself, so the run of crates/leireg shows that it opens such a store, moves it to
-form 2 and answers from it.
+The tables are made by the statements of the first form, and each entry and cell is what docs/FORMATS.md and
+docs/RULES.md say that it is. Nothing comes from the register itself. So the run of crates/leireg shows that it opens
+such a store, moves it to form 2 and answers from it.
 
 usage: checks/older_store.py [FILE]
 """

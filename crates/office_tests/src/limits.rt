@@ -280,9 +280,9 @@ pub const OTHER_ACCREDITED: Step = (
     r#"{"entry":2,"issuer":"HWUPKR0MPOU8FGXBT394"}"#,
 );
 
-// The first limits have no room for the body of two records, which has more than 1,200 bytes, and the next have room for
-// one of the records. Under the third a body may have 44 bytes, as many as the only upload has, and under the fourth one
-// fewer. The last have room for two entries.
+// The first limits have no room for the body of two records, which has more than 1,200 bytes, and the next have room
+// for one of the records. Under the third a body may have 44 bytes, as many as the only upload has, and under the
+// fourth one fewer. The last have room for two entries.
 #[test]
 fn an_office_takes_what_its_limits_have_room_for(rt: HostRuntime) {
     let few = Limits {
