@@ -32,6 +32,9 @@ pub fn tell_session<R: Print + AllocGlobal + Threads + Sync>(
     Ok(true)
 }
 
+// The least of these with which each call fails in turn: with fewer bytes there are too many calls.
+const LEAST_WITH_FAULTS: usize = 7;
+
 // One more than the number of calls that fail in turn.
 const MOST_CALLS: u64 = 100_000;
 
@@ -65,7 +68,8 @@ fn passes<R: Print + AllocGlobal + Threads + Sync>(
     let trial = Trial { file, title, size };
     let mut stores: Vec<Store> = Vec::new(alloc);
     for run in session.runs() {
-        if run.has_each_fault() && !ends_at_each(rt, alloc, trial, run, &stores)? {
+        let has_faults = run.has_each_fault() && size >= LEAST_WITH_FAULTS;
+        if has_faults && !ends_at_each(rt, alloc, trial, run, &stores)? {
             return Ok(false);
         }
         let came = or_io_error(run_in_memory(rt, alloc, run, size, &mut stores))?;
