@@ -1,5 +1,5 @@
 """The worked examples of crates/worked_examples/data, as scripts read them: the sessions of a file with their runs. What the
-form of a session is, the README there says; of its lines `refuses` and `+` are left out."""
+form of a session is, the README there says; of its lines `refuses`, `fails`, `each`, `entry`, `cell` and `+` are left out."""
 from __future__ import annotations
 
 import calendar
