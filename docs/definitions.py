@@ -14,14 +14,30 @@ import pathlib
 import re
 import sys
 
+from theorem import FUNCTIONS
+
 ROOT = pathlib.Path(__file__).resolve().parent.parent
 PAGE = ROOT / "docs" / "DEFINITIONS.md"
 CALLS = ["lei_values", "lei_outside", "lei_keeper", "memory_devices", "lei_code", "register_history", "delta_apply",
          "program_words", "keeper_sqlite", "lei_office", "lei_hall", "issuer_http", "line_service", "leireg_run", "leireg_serve"]
 LEAST = 1200
+# What the definitions of each crate are about.
+SUBJECTS = {
+    "replies and the history": ["register_words", "upload_format", "upload_ledger", "answer_texts", "register_table",
+                                "register_history"],
+    "the rules of items": ["lei_code", "lei_shapes", "lei_records", "item_fields", "status_rules", "authority_rules",
+                           "successor_rules", "relation_rules", "register_judge"],
+    "the store": ["lei_values", "lei_keeper", "register_state", "lei_office"],
+    "files of copies": ["copy_csv", "copy_forms", "golden_shelf", "delta_apply", "name_search", "lei_mirror",
+                        "group_reports", "query_reading", "search_queries", "mirror_queries", "file_commands", "register_demo"],
+    "lines and the program": ["lei_outside", "request_loop", "line_reading", "line_service", "program_words", "leireg_run"],
+    "many callers and HTTP": ["turnstile", "lei_hall", "http_heads", "issuer_http", "leireg_serve"],
+}
 HEAD = """# Definitions
 
 The definitions that the contracts of the public calls reach, crate by crate, from the lowest up, each with its type. The public calls are those of {calls}. The page is made by `docs/definitions.py` from the comments in `crates/*/specs`, which are right above the definitions: change them there. `docs/definitions.py --check` reports whether the page is stale. What is defined for parts of the program alone, or for proofs, isn't here.
+
+A star marks the definitions that the contracts of the five functions of [THEOREM.md](THEOREM.md) reach: who believes these knows what the program promises. They stand in these files, with so many lines without comments:
 """
 HEADS = re.compile(r"^(?:(?:abbrev|unfoldable|opaque) )?(?P<pub>pub )?(?:(?:record|data) )?(?P<name>[^\s(:]+)(?P<rest>.*)$")
 DECLARES = re.compile(r"^(?:abbrev|unfoldable|opaque|pub|record|data)\b")
@@ -160,8 +176,18 @@ def contracts(crate):
                     yield "\n".join(lines[at:end]), imports
 
 
-def reached(specs):
-    todo = [place for crate in crates() if crate in CALLS for text, imports in contracts(crate) for place in imports.reached(text)]
+def theorem_contracts():
+    """The texts of the contracts of the functions of docs/THEOREM.md, each with the imports of its file."""
+    for function, path in FUNCTIONS.items():
+        lines = (ROOT / path).read_text().splitlines()
+        at = next(at for at, line in enumerate(lines) if re.match(rf"\s*pub fn {function}\b", line))
+        end = next(to for to in range(at, len(lines)) if OPENS.match(lines[to]))
+        yield "\n".join(lines[at:end]), Imports(lines)
+
+
+def reached(specs, texts):
+    """The definitions that these contracts reach."""
+    todo = [place for text, imports in texts for place in imports.reached(text)]
     seen = set()
     while todo:
         place = todo.pop()
@@ -175,7 +201,25 @@ def reached(specs):
 # ---- the page
 
 
-def table(spec, seen):
+def subject_of(crate):
+    return next((subject for subject, names in SUBJECTS.items() if crate in names), None)
+
+
+def reading_list(specs, order, seen):
+    """The crates with these definitions, by what they are about, with the lines of the definitions in each file."""
+    lines, total = ["| About | Crate | Files, each with its lines | Lines |", "|---|---|---|---|"], 0
+    for subject, names in SUBJECTS.items():
+        for crate in names:
+            counts = {module: sum(spec.texts[name].count("\n") for name in spec.texts if (crate, module, name) in seen)
+                      for module, spec in ((module, specs[crate, module]) for of, module in order if of == crate)}
+            files = ", ".join(f"{module} {count}" for module, count in counts.items() if count)
+            if files:
+                lines.append(f"| {subject} | `{crate}` | {files} | {sum(counts.values()):,} |")
+                subject, total = "", total + sum(counts.values())
+    return [*lines, f"| in all | | | {total:,} |"]
+
+
+def table(spec, seen, marked):
     rows, lines, title = False, [], None
     for name, told, words in spec.parts:
         if name is None:
@@ -187,7 +231,8 @@ def table(spec, seen):
             if not rows:
                 lines += ["", "| Definition | In words |", "|---|---|"]
                 rows = True
-            lines.append(f"| `{told}` | {words} |".replace("||", "\\|\\|"))
+            star = " ★" if (*spec.place, name) in marked else ""
+            lines.append(f"| `{told}`{star} | {words} |".replace("||", "\\|\\|"))
     return lines
 
 
@@ -199,10 +244,11 @@ def page():
         for module in re.findall(r"(?m)^pub mod (\S+)", lib.read_text()) if lib.is_file() else []:
             specs[crate, module] = Spec(crate, module)
             order.append((crate, module))
-    seen = reached(specs)
-    lines, last = [HEAD.format(calls=", ".join(f"`{crate}`" for crate in CALLS)).rstrip("\n")], None
+    seen = reached(specs, [each for crate in crates() if crate in CALLS for each in contracts(crate)])
+    marked = reached(specs, theorem_contracts())
+    lines, last = [HEAD.format(calls=", ".join(f"`{crate}`" for crate in CALLS)), *reading_list(specs, order, marked)], None
     for crate, module in order:
-        rows = table(specs[crate, module], seen)
+        rows = table(specs[crate, module], seen, marked)
         if rows:
             lines += ["", f"## `{crate}`"] if crate != last else []
             lines += ["", f"### [`{module}.antt`](../crates/{crate}/specs/{module}.antt)", "", specs[crate, module].head, *rows]
@@ -210,6 +256,8 @@ def page():
     faults = [f"crates/{crate}/specs/{module}.antt: {name} has no words"
               for crate, module in order for name in specs[crate, module].bare]
     faults += [f"docs/definitions.py: there is no crate {crate}" for crate in CALLS if crate not in list(crates())]
+    faults += [f"docs/definitions.py: {crate} is about nothing" for crate in sorted({place[0] for place in marked}) if not subject_of(crate)]
+    faults += [f"docs/DEFINITIONS.md: {place} is reached by the theorem alone" for place in sorted(marked - seen)]
     faults += [f"docs/DEFINITIONS.md: it has {len(seen)} definitions, and {LEAST} are the least"] * (len(seen) < LEAST)
     return "\n".join(lines) + "\n", faults
 
