@@ -20,8 +20,8 @@ ServesMirror step before after last ended =
     Serves step mirror_rules run_limit (mirror_progress empty_mirror before.written) before.left
     (mirror_progress last after.written) after.left ended
 
--- Each file that was shown is the copy of the publication that was shown at that time. This holds if all packets in the
--- bytes that were taken belong to the trail.
+-- Each file that was shown is the copy of the publication that was shown at that time. This holds if what the bytes
+-- that were taken send as packets belongs to the trail, or is no packet at all.
 abbrev pub ShowsTrail : Trail → Sides → Sides → MirrorState → Ended NoEnd → List ℕ → Type 0
 ShowsTrail trail before after last ended bytes =
     ArePacketsOfTrail trail bytes → ServesMirror (TrailStep trail) before after last ended

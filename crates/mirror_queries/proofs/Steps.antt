@@ -1,13 +1,14 @@
 -- What stays true during a session of a mirror.
-use Rattle.std.proofs.Common.{◌≡◌, ◌<◌, ◌≤◌, ℕ, zero, suc, ℤ, List, [], ◌∷◌, length, Bool, true, false, Some, inl, inr, refl, sym, ap, subst, ◌∙◌, arith}
+use Rattle.std.proofs.Common.{◌≡◌, ◌⊎◌, ◌<◌, ◌≤◌, ℕ, zero, suc, ℤ, List, [], ◌∷◌, length, Bool, true, false, Some, inl, inr, refl, sym, ap, subst, ◌∙◌, arith}
 use Rattle.std.specs.List.{All}
 use Rattle.std.proofs.lemmas.List.Elements.{All-head, All-nil, All-tail}
 use Rattle.lei_code.specs.Texts.{Text}
 use Rattle.register_words.specs.declared.sheets.Sheet.{Sheet}
 use Rattle.copy_forms.specs.Json.{json_copy}
 use Rattle.copy_forms.specs.Trails.{IsSoundTrail, Trail, copy_head}
-use Rattle.lei_mirror.specs.Following.{FollowsTrail, IsCopyAt, IsKeptOfTrail, ShowsCopyOf}
+use Rattle.lei_mirror.specs.Following.{FollowsTrail, IsCopyAt, IsKeptOfTrail, IsOfTrail, ShowsCopyOf}
 use Rattle.lei_mirror.specs.Mirrors.{IsReadyToShow, IsSheetShown, MirrorState, SettlesIn, TakesBytes, empty_mirror, is_past, mirror_at, sheet_copy, with_packet}
+use Rattle.lei_mirror.specs.Packets.{IsNoPacket}
 use Rattle.lei_mirror.proofs.FollowingLemmas.{take_follows}
 use Rattle.query_reading.specs.declared.asked.QueryAsked.{QueryAsked}
 use Rattle.query_reading.specs.declared.reply.QueryReply.{QueryReply}
@@ -99,11 +100,21 @@ module _ (trail : Trail) (on : IsSoundTrail trail) (few : length trail ≤ 1_000
   same_follows : (old new : MirrorState) → FollowsTrail trail old → new ≡ old → FollowsTrail trail new
   same_follows old new follows is = let F : MirrorState → Type 0 = λ s. FollowsTrail trail s in subst F (sym is) follows
 
+  -- what is taken is a packet, and so one of the trail
+  taken_of_trail : (old new : MirrorState) (head : PacketHead) (packet : Text)
+      → IsOfTrail trail head.kind head.sheet packet ⊎ IsNoPacket head.kind head.sheet packet
+      → TakesBytes old head.kind head.sheet packet new → IsOfTrail trail head.kind head.sheet packet
+  taken_of_trail old new head packet of takes = elim of [
+    | inl is ↦ is
+    | inr none ↦ absurd (none takes.packet takes.is)
+  ]
+
   packet_follows : (old new : MirrorState) (head : PacketHead) (packet : Text) (reply : QueryReply)
       → FollowsTrail trail old → IsAskedOfTrail trail (QueryAsked.Packet head packet)
       → PacketStep old head packet reply new → FollowsTrail trail new
   packet_follows old new head packet reply follows of step = elim step [
-    | inl takes ↦ take_follows trail on few old new head.kind head.sheet packet takes.short of follows takes.takes
+    | inl takes ↦ take_follows trail on few old new head.kind head.sheet packet takes.short
+        (taken_of_trail old new head packet of takes.takes) follows takes.takes
     | inr (inl refuses) ↦ same_follows old new follows refuses.stays
     | inr (inr (inl lacks)) ↦ same_follows old new follows lacks.stays
     | inr (inr (inr wants)) ↦ same_follows old new follows wants.stays

@@ -1,10 +1,11 @@
--- A mirror whose packets are all of one trail of publications.
-use Rattle.std.specs.Prelude.{ℕ, ℤ, List, Option}
+-- A mirror that takes only packets of one trail of publications.
+use Rattle.std.specs.Prelude.{◌⊎◌, ℕ, ℤ, List, Option}
 use Rattle.std.specs.List.{All}
 use Rattle.register_words.specs.declared.sheets.Sheet.{Sheet}
 use Rattle.copy_forms.specs.Trails.{Trail}
 use Rattle.lei_mirror.specs.Following.{FollowsTrail, IsCopyAt, IsOfTrail}
 use Rattle.lei_mirror.specs.Mirrors.{MirrorState}
+use Rattle.lei_mirror.specs.Packets.{IsNoPacket}
 use Rattle.line_reading.specs.declared.framing.NoEnd.{NoEnd}
 use Rattle.query_reading.specs.declared.asked.QueryAsked.{QueryAsked}
 use Rattle.query_reading.specs.declared.reply.QueryReply.{QueryReply}
@@ -13,13 +14,14 @@ use Rattle.request_loop.specs.declared.frames.Want.{Want}
 use Rattle.mirror_queries.specs.Answering.{MirrorAsked, MirrorStep}
 use Rattle.mirror_queries.specs.Serving.{mirror_rules}
 
--- If a packet is to be taken, it is of the trail.
+-- If bytes are sent as a packet, they are one of the trail, or no packet at all. A mirror refuses what is no packet.
 abbrev pub IsAskedOfTrail : Trail → MirrorAsked → Type 0
 IsAskedOfTrail trail (QueryAsked.Refuse refusal) = Unit {0}
 IsAskedOfTrail trail (QueryAsked.Query query) = Unit {0}
-IsAskedOfTrail trail (QueryAsked.Packet head packet) = IsOfTrail trail head.kind head.sheet packet
+IsAskedOfTrail trail (QueryAsked.Packet head packet) =
+    IsOfTrail trail head.kind head.sheet packet ⊎ IsNoPacket head.kind head.sheet packet
 
--- All packets that whole frames at the front of the bytes ask to be taken are of the trail.
+-- What whole frames at the front of the bytes send as packets are packets of the trail, or no packets at all.
 abbrev pub ArePacketsOfTrail : Trail → List ℕ → Type 0
 ArePacketsOfTrail trail bytes =
     (frames : List (Option (Want MirrorAsked NoEnd))) (rest : List ℕ) → Frames mirror_rules bytes frames rest

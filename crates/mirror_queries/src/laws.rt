@@ -31,8 +31,8 @@ pub fn publications_never_fall()
         → old.tables.publication ≤ new.tables.publication }
 {}
 
-/// Suppose a session starts with a mirror that follows a sound trail of at most 1,000,000 publications, and its packets
-/// are all of that trail. Then the mirror follows the trail after each query. Each file that is shown is the copy of
+/// Suppose a session starts with a mirror that follows a sound trail of at most 1,000,000 publications, and what is sent
+/// as packets is of that trail, or no packet at all. Then the mirror follows the trail after each query. Each file that is shown is the copy of
 /// the publication that is shown at that time.
 pub fn sessions_follow_trails()
     ensures { (trail : Trail) → IsSoundTrail trail → length trail ≤ 1_000_000
@@ -42,7 +42,7 @@ pub fn sessions_follow_trails()
         → FollowsTrail trail new × Session (TrailStep trail) old asks moments replies new }
 {}
 
-/// The same for a mirror that is served, if the packets in the bytes that it took from the wire are all of the trail.
+/// The same for a mirror that is served, if the bytes that it took from the wire send such packets alone.
 pub fn served_mirrors_follow_trails()
     ensures { (trail : Trail) → IsSoundTrail trail → length trail ≤ 1_000_000
         → (most : ℕ) (start now : Progress MirrorState) (left left_now : Option (List ℕ))
