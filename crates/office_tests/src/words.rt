@@ -49,6 +49,14 @@ serve --port 0 --workers 1 --help
 serve -- --port 0 --workers 1
 Serve --port 0 --workers 1";
 
+// The words of commands that read files, with the paths that become their first and their second file.
+const FILES: [(&str, Option<&str>, Option<&str>); 4] = [
+    ("apply lei csv a.csv b.csv", Some("a.csv"), Some("b.csv")),
+    ("group ALL json a b", Some("a"), Some("b")),
+    ("search csv a", None, Some("a")),
+    ("mirror", None, None),
+];
+
 /// The words of a text, separated by spaces.
 pub fn words_of(alloc: Global, text: &str) -> Result<Vec<String>, NoMemory> {
     let mut words = Vec::new(alloc);
@@ -99,6 +107,22 @@ fn other_words_are_no_server(rt: HostRuntime) -> Result<(), Fail> {
     for text in OTHERS.lines() {
         let words = words_of(rt.alloc(), text)?;
         assert!(rt; is_refused(rt.alloc(), &words), "{text}");
+    }
+    Ok(())
+}
+
+fn has_files(alloc: Global, words: &[String], first: Option<&str>, second: Option<&str>) -> bool {
+    match wanted_run(alloc, words) {
+        Ok(run) => run.first == first && run.second == second,
+        Err(_) => false,
+    }
+}
+
+#[test]
+fn each_file_of_a_command_has_its_place(rt: HostRuntime) -> Result<(), Fail> {
+    for (text, first, second) in FILES {
+        let words = words_of(rt.alloc(), text)?;
+        assert!(rt; has_files(rt.alloc(), &words, first, second), "{text}");
     }
     Ok(())
 }
