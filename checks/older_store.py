@@ -8,15 +8,19 @@ such a store, moves it to form 2 and answers from it.
 
 usage: checks/older_store.py [FILE]
 """
-import json
 import pathlib
 import sqlite3
 import sys
 
 ROOT = pathlib.Path(__file__).resolve().parent.parent
+sys.path.insert(0, str(ROOT))
+
+from checks.common import inputs  # noqa: E402
+from checks.common.inputs import AUTHORITY_ID, ISSUER, SUCCESSORS, code, compact, reply_to_upload  # noqa: E402
+from checks.common.stores import remove  # noqa: E402
+
 FILE = ROOT / "crates" / "leireg" / "data" / "register.db"
-ISSUER = "506700GE1G29325QX363"
-ALPHA, BETA, GAMMA = "00000000000000000195", "00000000000000000292", "00000000000000000389"
+ALPHA, BETA, GAMMA = map(code, (1, 2, 3))
 
 # 2025-01-11T00:00:00Z and a day later.
 FIRST_DAY, NEXT_DAY = 1_736_553_600, 1_736_640_000
@@ -43,94 +47,54 @@ CREATE TABLE IF NOT EXISTS cell (
 ) STRICT;"""
 
 
-def record(lei, name, number, **fields):
-    """The fields of a record that passes all checks, with others in place of some."""
-    texts = {
-        "Entity.EntityCategory": "GENERAL",
-        "Entity.EntityStatus": "ACTIVE",
-        "Entity.HeadquartersAddress.City": "Paris",
-        "Entity.HeadquartersAddress.Country": "FR",
-        "Entity.HeadquartersAddress.FirstAddressLine": "1 Main Street",
-        "Entity.LegalAddress.City": "Paris",
-        "Entity.LegalAddress.Country": "FR",
-        "Entity.LegalAddress.FirstAddressLine": "1 Main Street",
-        "Entity.LegalForm.EntityLegalFormCode": "AB12",
-        "Entity.LegalJurisdiction": "FR",
+def record(number, name, others=None):
+    """A record that passes all checks on these days, with others in place of some fields."""
+    return inputs.record(number, {
         "Entity.LegalName": name,
-        "Entity.RegistrationAuthority.RegistrationAuthorityEntityID": number,
-        "Entity.RegistrationAuthority.RegistrationAuthorityID": "RA000001",
-        "LEI": lei,
-        "Registration.InitialRegistrationDate": "2025-01-10T09:00:00Z",
-        "Registration.LastUpdateDate": "2025-01-10T09:00:00Z",
-        "Registration.ManagingLOU": ISSUER,
+        AUTHORITY_ID: str(1_000 + number),
         "Registration.NextRenewalDate": "2026-01-10T09:00:00Z",
-        "Registration.RegistrationStatus": "ISSUED",
-        "Registration.ValidationSources": "FULLY_CORROBORATED",
-    }
-    texts.update((name.replace("_", "."), text) for name, text in fields.items())
-    return texts
+        **(others or {}),
+    })
 
 
-PARENT = {
-    "Registration.InitialRegistrationDate": "2025-01-10T09:00:00Z",
-    "Registration.LastUpdateDate": "2025-01-10T09:00:00Z",
-    "Registration.ManagingLOU": ISSUER,
-    "Registration.RegistrationStatus": "PUBLISHED",
-    "Registration.ValidationSources": "FULLY_CORROBORATED",
-    "Relationship.EndNode": GAMMA,
-    "Relationship.RelationshipStatus": "ACTIVE",
-    "Relationship.RelationshipType": "IS_DIRECTLY_CONSOLIDATED_BY",
-    "Relationship.StartDate": "2025-01-10T09:00:00Z",
-    "Relationship.StartNode": BETA,
-}
-NO_PARENT = {
-    "ExceptionCategory": "DIRECT_ACCOUNTING_CONSOLIDATION_PARENT",
-    "ExceptionReason": "NON_CONSOLIDATING",
-    "LEI": GAMMA,
-}
-RETIRED = record(
-    ALPHA, "Alpha", "1001", Entity_EntityStatus="INACTIVE", Registration_RegistrationStatus="RETIRED",
-    Entity_SuccessorEntity_1_SuccessorLEI=f"{BETA} {GAMMA}")
-SECOND, THIRD = record(BETA, "Beta", "1002"), record(GAMMA, "Gamma", "1003")
+def answer(entry, number, *items):
+    """The answer to an upload: its reply without the status code."""
+    return reply_to_upload(entry, number, items)[4:-1]
 
 
-def text(value):
-    """JSON without spaces, with the names of each object in byte order."""
-    return json.dumps(value, separators=(",", ":"), sort_keys=True).encode()
-
-
-def taken(entry, number, *items):
-    """The reply to an upload."""
-    return text({"entry": entry, "issuer": ISSUER, "items": items, "number": number})
-
-
-THREE = text({"records": [record(ALPHA, "Alpha", "1001"), SECOND, THIRD]})
-SUCCEEDED = text({"records": [RETIRED]})
-OTHERS = text({"exceptions": [NO_PARENT], "relationships": [PARENT]})
+FIRST, SECOND, THIRD = record(1, "Alpha"), record(2, "Beta"), record(3, "Gamma")
+RETIRED = record(1, "Alpha", {
+    "Entity.EntityStatus": "INACTIVE",
+    "Registration.RegistrationStatus": "RETIRED",
+    SUCCESSORS: f"{BETA} {GAMMA}",
+})
+PARENT, NO_PARENT = inputs.relationship(2, 3), inputs.exception(3)
+THREE = compact({"records": [FIRST, SECOND, THIRD]})
+SUCCEEDED = compact({"records": [RETIRED]})
+OTHERS = compact({"exceptions": [NO_PARENT], "relationships": [PARENT]})
 SEVERAL = "C03 FIELD_SHAPE Entity.SuccessorEntity.1.SuccessorLEI"
 
 # By rules 1 a record has one successor at most, and by rules 2 it may have several.
 ENTRIES = [
-    (1, ACCREDIT, ISSUER, 0, FIRST_DAY, 1, b"", text({"entry": 1, "issuer": ISSUER})),
-    (2, UPLOAD, ISSUER, 1, FIRST_DAY, 1, THREE, taken(2, 1, "ACCEPTED", "ACCEPTED", "ACCEPTED")),
-    (3, UPLOAD, ISSUER, 2, FIRST_DAY, 1, SUCCEEDED, taken(3, 2, SEVERAL)),
-    (4, UPLOAD, ISSUER, 3, NEXT_DAY, 2, SUCCEEDED, taken(4, 3, "ACCEPTED")),
-    (5, UPLOAD, ISSUER, 4, NEXT_DAY, 2, OTHERS, taken(5, 4, "ACCEPTED", "ACCEPTED")),
-    (6, PUBLISH, "", 1, NEXT_DAY, 2, b"", text({
+    (1, ACCREDIT, ISSUER, 0, FIRST_DAY, 1, b"", compact({"entry": 1, "issuer": ISSUER})),
+    (2, UPLOAD, ISSUER, 1, FIRST_DAY, 1, THREE, answer(2, 1, "ACCEPTED", "ACCEPTED", "ACCEPTED")),
+    (3, UPLOAD, ISSUER, 2, FIRST_DAY, 1, SUCCEEDED, answer(3, 2, SEVERAL)),
+    (4, UPLOAD, ISSUER, 3, NEXT_DAY, 2, SUCCEEDED, answer(4, 3, "ACCEPTED")),
+    (5, UPLOAD, ISSUER, 4, NEXT_DAY, 2, OTHERS, answer(5, 4, "ACCEPTED", "ACCEPTED")),
+    (6, PUBLISH, "", 1, NEXT_DAY, 2, b"", compact({
         "contentDate": "2025-01-12T00:00:00Z", "entry": 6, "lei": 3, "publication": 1, "repex": 1, "rr": 1})),
 ]
 CELLS = [
-    (1, ALPHA, 4, text(RETIRED)),
-    (1, BETA, 2, text(SECOND)),
-    (1, GAMMA, 2, text(THIRD)),
-    (2, f"{BETA} IS_DIRECTLY_CONSOLIDATED_BY {GAMMA}", 5, text(PARENT)),
-    (3, f"{GAMMA} DIRECT_ACCOUNTING_CONSOLIDATION_PARENT", 5, text(NO_PARENT)),
+    (1, ALPHA, 4, compact(RETIRED)),
+    (1, BETA, 2, compact(SECOND)),
+    (1, GAMMA, 2, compact(THIRD)),
+    (2, f"{BETA} IS_DIRECTLY_CONSOLIDATED_BY {GAMMA}", 5, compact(PARENT)),
+    (3, f"{GAMMA} DIRECT_ACCOUNTING_CONSOLIDATION_PARENT", 5, compact(NO_PARENT)),
 ]
 
 
 def main(file):
-    for old in (file, pathlib.Path(f"{file}-wal"), pathlib.Path(f"{file}-shm")):
-        old.unlink(missing_ok=True)
+    remove(file)
     store = sqlite3.connect(file)
     store.executescript(TABLES)
     store.executemany("INSERT INTO entry VALUES (?, ?, ?, ?, ?, ?, ?, ?)", ENTRIES)

@@ -1,7 +1,7 @@
 //! A yardstick for the speed of `leireg`: a plain Rust program over std alone that answers the same lines.
 //!
-//! Nothing of the product stands on it, and nothing is proved of it. `bench/pace.py` compiles it, measures it
-//! beside the register, and compares what both write, byte by byte.
+//! Nothing of the product stands on it, and nothing is proved of it. `bench/run` compiles it, measures it beside
+//! the register, and compares what both write with what the documents say, byte by byte.
 //!
 //!     yardstick lines [MOMENT..]                answers the lines of the standard input
 //!     yardstick demo N                          makes up a register of N records

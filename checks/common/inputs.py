@@ -3,6 +3,7 @@ from __future__ import annotations
 
 import datetime
 import json
+import re
 
 # Valid LEIs of issuing offices.
 ISSUERS = ("506700GE1G29325QX363", "HWUPKR0MPOU8FGXBT394", "5493001KJTIIGC8Y1R12", "00000000000000000195")
@@ -199,6 +200,42 @@ STATUS = http_request("GET", "/v1/status")
 LAST_STATUS = http_request("GET", "/v1/status", headers="Connection: close\r\n")
 
 
+# ---- replies
+
+
+def answer_to_accredit(entry, issuer=ISSUER):
+    """The answer to an accreditation that became this entry."""
+    return compact({"entry": entry, "issuer": issuer})
+
+
+def answer_to_upload(entry, number, verdicts, issuer=ISSUER):
+    """The answer to an upload of this number that became this entry, with these verdicts."""
+    return compact({"entry": entry, "issuer": issuer, "items": verdicts, "number": number})
+
+
+def answer_to_status(**counts):
+    """The answer to STATUS, by the counts that aren't 0."""
+    names = "entries exceptions issuers keptBytes publications records relationships".split()
+    return compact({**dict.fromkeys(names, 0), **counts})
+
+
+def reply(answer):
+    """The line that has an answer."""
+    return b"200 " + answer + b"\n"
+
+
+def reply_to_accredit(entry, issuer=ISSUER):
+    return reply(answer_to_accredit(entry, issuer))
+
+
+def reply_to_upload(entry, number, verdicts, issuer=ISSUER):
+    return reply(answer_to_upload(entry, number, verdicts, issuer))
+
+
+def reply_to_status(**counts):
+    return reply(answer_to_status(**counts))
+
+
 # ---- copies
 
 
@@ -209,3 +246,12 @@ def csv_line(texts):
 def csv_row(names, fields):
     """The line of an item in CSV, with a column for each of these names."""
     return csv_line([fields.get(name, "") for name in names])
+
+
+# ---- answers
+
+
+def entry_of(text):
+    """The number of the entry in an answer, or 0 if there is none."""
+    entry = re.match(rb'{"entry":([1-9][0-9]{0,8}),', text)
+    return int(entry[1]) if entry else 0

@@ -40,9 +40,14 @@ def compile_c(source, folder, *flags):
 # ---- runs
 
 
+def run_command(program, sent, *words, **more):
+    """A run of a command of the program over this input: its status, and what it wrote to its two outputs."""
+    return subprocess.run([program, *words], input=sent, capture_output=True, timeout=600, **more)
+
+
 def lines(program, sent, *words, **more):
     """A run of the program over these lines: its status, and what it wrote to its two outputs."""
-    return subprocess.run([program, "lines", *words], input=sent, capture_output=True, timeout=600, **more)
+    return run_command(program, sent, "lines", *words, **more)
 
 
 @dataclasses.dataclass(frozen=True, order=True)
@@ -69,6 +74,12 @@ def peak(pid):
     """The most memory that a running process has had, in bytes."""
     status = pathlib.Path(f"/proc/{pid}/status").read_text()
     return 1024 * next(int(line.split()[1]) for line in status.splitlines() if line.startswith("VmHWM"))
+
+
+def processor_seconds(pid):
+    """The seconds of processors that a running process has had."""
+    fields = pathlib.Path(f"/proc/{pid}/stat").read_text().rpartition(")")[2].split()
+    return (int(fields[11]) + int(fields[12])) / os.sysconf("SC_CLK_TCK")
 
 
 # ---- replies
@@ -143,10 +154,10 @@ def commit():
 
 def machine():
     """The machine and the compilers, as words by name."""
-    model = next((line.split(":", 1)[1].strip() for line in output_of("lscpu").splitlines() if line.startswith("Model name:")), "")
+    models = [line.split(":", 1)[1].strip() for line in output_of("lscpu").splitlines() if line.startswith("Model name:")]
     memory = os.sysconf("SC_PAGE_SIZE") * os.sysconf("SC_PHYS_PAGES")
     return {
-        "processor": model or platform.processor(),
+        "processor": models[0] if models else platform.processor(),
         "processors": len(os.sched_getaffinity(0)),
         "memory": f"{memory / 1e9:.0f} GB",
         "kernel": platform.release(),

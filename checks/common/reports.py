@@ -39,3 +39,14 @@ class Run:
     is_quick: bool
     seed: int
     report: Report
+
+
+def first_difference(wanted, came):
+    """How many of the wanted replies come one after the other at the start of some bytes, and what differs first, or
+    nothing."""
+    at = 0
+    for place, reply in enumerate(wanted):
+        if came[at:at + len(reply)] != reply:
+            return place, f"reply {place + 1} is in {came[at:at + max(100, len(reply))]!r}"[:400] + f", not {reply!r}"[:400]
+        at += len(reply)
+    return len(wanted), f"{came[at:]!r} is no reply"[:400] if came[at:] else ""

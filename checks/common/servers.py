@@ -46,10 +46,10 @@ class Server:
         self.end()
 
     def connect(self):
-        """A connection to the server, whose reads and writes wait for at most 20 seconds."""
-        return socket.create_connection(("127.0.0.1", self.port), 20)
+        """A connection to the server, whose reads and writes wait for at most 60 seconds."""
+        return socket.create_connection(("127.0.0.1", self.port), WAIT)
 
-    def client(self, timeout=20):
+    def client(self, timeout=WAIT):
         """A client of Python's own that keeps its connection."""
         return http.client.HTTPConnection("127.0.0.1", self.port, timeout=timeout)
 
