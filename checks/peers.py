@@ -28,6 +28,8 @@ TAKES_NOTHING = 6 * SILENCE
 COUNT, QUICK_COUNT = 2_000, 200
 # How many records are published.
 RECORDS, QUICK_RECORDS = 400, 50
+# How far apart the numbers of the records of two issuers are: each sends at most so many uploads.
+APART = 1_000_000
 
 
 class Issuer:
@@ -40,7 +42,7 @@ class Issuer:
         self.bodies = []
 
     def record(self, number):
-        return record(self.number * 10_000 + number, {"Entity.LegalName": f"Société «{number}», S.A."}, self.code)
+        return record(self.number * APART + number, {"Entity.LegalName": f"Société «{number}», S.A."}, self.code)
 
     def body(self, number):
         while len(self.bodies) < number:
@@ -93,7 +95,7 @@ class World:
         """Requests whose responses don't depend on what others send, and these responses."""
         first = self.issuers[0]
         return [
-            (http_request("GET", f"/v1/records/{code(first.number * 10_000 + 1)}"), (200, compact(self.copied[0]))),
+            (http_request("GET", f"/v1/records/{code(first.number * APART + 1)}"), (200, compact(self.copied[0]))),
             (http_request("PUT", f"/v1/issuers/{first.code}", b""), (200, answer_to_accredit(1, first.code))),
             (http_request("GET", first.path(1)),
              (200, answer_to_upload(len(self.issuers) + 1, 1, ["ACCEPTED"] * self.count, first.code))),
