@@ -332,6 +332,8 @@ def wait_for_silent(program):
     """The response to a peer of the only worker, which has a silent one."""
     with Server(program) as server, server.connect():
         begun = time.monotonic()
+        # Meanwhile the worker takes the silent one.
+        time.sleep(0.2)
         return seen_after(begun, SILENCE, server.ask("GET", "/v1/status"))
 
 
