@@ -188,7 +188,10 @@ def run_lines(fault, program, words):
             process.stdin.write(line)
             process.stdin.flush()
             if line.endswith(b"\n") and line not in (b"\n", b"\r\n"):
-                write(take(process.stdout, fault))
+                reply = take(process.stdout, fault)
+                if not reply:
+                    break
+                write(reply)
     with contextlib.suppress(BrokenPipeError):
         process.stdin.close()
     pass_replies(fault, process)

@@ -40,9 +40,9 @@ def compile_c(source, folder, *flags):
 # ---- runs
 
 
-def run_command(program, sent, *words, **more):
+def run_command(program, sent, *words, timeout=600, **more):
     """A run of a command of the program over this input: its status, and what it wrote to its two outputs."""
-    return subprocess.run([program, *words], input=sent, capture_output=True, timeout=600, **more)
+    return subprocess.run([program, *words], input=sent, capture_output=True, timeout=timeout, **more)
 
 
 def lines(program, sent, *words, **more):

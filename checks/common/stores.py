@@ -5,6 +5,7 @@ import contextlib
 import pathlib
 import shutil
 import sqlite3
+import subprocess
 
 from checks.common.programs import lines, run_command
 from checks.common.servers import LISTENS
@@ -84,8 +85,13 @@ def open_lines(program, store):
 
 
 def open_server(program, store):
-    """How `serve` ends over a store that it can't open: the status, its words, whether it listened, and the output."""
-    done = run_command(program, b"", "serve", "--port", "0", "--workers", "1", "--connections", "1", "--store", store)
+    """How `serve` ends over a store that it can't open: the status, its words, whether it listened, and the output. One
+    that doesn't end listens, and has no status."""
+    words = "serve", "--port", "0", "--workers", "1", "--connections", "1", "--store", store
+    try:
+        done = run_command(program, b"", *words, timeout=10)
+    except subprocess.TimeoutExpired:
+        return None, [], True, b""
     told = done.stderr.decode().splitlines()
     listened = any(line.startswith(LISTENS) for line in told)
     return done.returncode, [line for line in told if line in WORDS.values()], listened, done.stdout
