@@ -20,7 +20,8 @@ pub fn applied_copies_lead_on()
 {}
 
 /// For a legal history, suppose that what a mirror is sent as packets are copies and deltas of its publications, or no
-/// packets at all. Then each file that is shown is the copy of the publication that is shown at that time, byte for byte.
+/// packets at all. Then each file that is shown is the copy of the publication that is shown at that time, byte for
+/// byte.
 pub fn mirrors_show_copies_of_histories()
     ensures { (office : OfficeState) → Legal office → (before after : Sides) (status : ℕ)
         → (answers : AnswersMirror before after status)

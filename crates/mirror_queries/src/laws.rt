@@ -31,9 +31,9 @@ pub fn publications_never_fall()
         → old.tables.publication ≤ new.tables.publication }
 {}
 
-/// Suppose a session starts with a mirror that follows a sound trail of at most 1,000,000 publications, and what is sent
-/// as packets is of that trail, or no packet at all. Then the mirror follows the trail after each query. Each file that is shown is the copy of
-/// the publication that is shown at that time.
+/// Suppose a session starts with a mirror that follows a sound trail of at most 1,000,000 publications, and what is
+/// sent as packets is of that trail, or no packet at all. Then the mirror follows the trail after each query. Each file
+/// that is shown is the copy of the publication that is shown at that time.
 pub fn sessions_follow_trails()
     ensures { (trail : Trail) → IsSoundTrail trail → length trail ≤ 1_000_000
         → (old : MirrorState) (asks : List MirrorAsked) (moments : List ℤ) (replies : List QueryReply)
