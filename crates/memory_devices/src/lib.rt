@@ -1,4 +1,5 @@
-//! Devices in memory: sources, sinks, links, doors, clocks and keepers. Some of them fail at the calls that they are given.
+//! Devices in memory: sources, sinks, links, doors, clocks and keepers. Some of them fail at the calls that they are
+//! given.
 #![tactic(auto)]
 
 mod calls;
