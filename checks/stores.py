@@ -3,7 +3,7 @@
 A second program on an open store ends with status 5, under another name of the file too, and the first one goes on. A store
 of form 1 is moved to form 2 with exactly its cells, also if the program is killed while it moves them. A store that is
 closed and opened again, by `lines` or by `serve`, returns records, kept answers, copies and deltas as before. A store with
-entries by rules 1 and 2 goes on with rules 3."""
+entries by rules 1 and 2 goes on with rules 3. The usage text names these rules and this form."""
 import itertools
 import json
 import os
@@ -15,7 +15,7 @@ from checks import older_store
 from checks.common import stores
 from checks.common.inputs import (FORMS, ISSUER, ISSUERS, TABLES, accredit, as_it_stands, code, compact, exception, moment,
                                   record, records, relationship, reply_to_accredit, reply_to_upload, upload, writings)
-from checks.common.programs import Talk, lines, take_reply
+from checks.common.programs import Talk, lines, run_command, take_reply, version
 from checks.common.servers import Server
 from checks.models.sheets import Sheet, delta_to, print_sheet, row_of
 from checks.models.storing import cells_after
@@ -172,6 +172,15 @@ def open_again(run, filled, store, before):
     run.report.equal("the same over HTTP", came, wanted)
 
 
+def compare_version(run, store):
+    """The usage text names the version, and of a store that this program made the rules of its entries and its form."""
+    told = run_command(run.program, b"", "--version").stderr.decode().splitlines()
+    [(form,)], rules = stores.rows(store, "SELECT form FROM store"), stores.entries(store)[-1][5]
+    run.report.equal("the usage text names the version, the rules of new entries and the form of a new store", told[2:4],
+                     [f"leireg {version()}: new entries have rules {rules}, and a new store has form {form}",
+                      "usage: leireg COMMAND"])
+
+
 # ---- the move from form 1
 
 
@@ -273,6 +282,7 @@ def check(run):
     start_second_program(run)
     filled, store = Filled(run.seed, QUICK_CELLS if run.is_quick else CELLS), run.folder / "register.db"
     before = fill(run, filled, store)
+    compare_version(run, store)
     move(run, filled, store, before)
     if run.is_quick:
         return
