@@ -60,7 +60,8 @@ def use_plain_ticks(axis):
 def draw(name, title, x_label, y_label, lines, ticks=None, has_one=False):
     """A picture of lines by name, each with its points. All but the ticks of commits is in logarithms."""
     with matplotlib.rc_context(STYLE):
-        figure, axes = pyplot.subplots(figsize=(8, max(3.5, 0.22 * len(lines) + 1.5)))
+        height = max(3.5, 0.22 * len(lines) + 1.5)
+        figure, axes = pyplot.subplots(figsize=(8, height))
         axes.set_yscale("log")
         use_plain_ticks(axes.yaxis)
         if ticks is None:
@@ -78,7 +79,7 @@ def draw(name, title, x_label, y_label, lines, ticks=None, has_one=False):
         axes.set_title(title, loc="left", fontsize=10)
         axes.set_xlabel(x_label)
         axes.set_ylabel(y_label)
-        figure.subplots_adjust(left=0.09, right=0.66, top=0.92, bottom=0.2)
+        figure.subplots_adjust(left=0.09, right=0.66, top=1 - 0.35 / height, bottom=(1.1 if ticks else 0.6) / height)
         figure.canvas.draw()
         label(axes, ends)
         FOLDER.mkdir(exist_ok=True)
