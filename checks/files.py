@@ -80,7 +80,8 @@ class Publisher:
 
     def __init__(self, run, server):
         self.server, self.wrong, self.chance = server, [], random.Random(run.seed)
-        self.held, self.copies, self.size = Held(), {}, QUICK_HELD if run.is_quick else HELD
+        self.held, self.size = Held(), QUICK_HELD if run.is_quick else HELD
+        self.copies, self.shown = {}, {}
         self.number, self.exported = 0, []
         self.expect(f"/v1/issuers/{ISSUER}", None, (200, answer_to_accredit(1).decode()))
 
@@ -111,10 +112,7 @@ class Publisher:
         if not is_moment(at) or text.encode() != compact(wanted):
             self.wrong.append((self.number, text, wanted))
         self.copies[self.number] = sheets
-
-    def shown(self, number):
-        """The three copies of a publication."""
-        return [print_sheet(self.copies[number][table], "json") for table in TABLES]
+        self.shown[self.number] = in_short(print_sheet(sheet, "json") for sheet in sheets.values())
 
     def latest(self):
         """What a follower has to show: the number of the latest publication, and the copies that the register gives."""
@@ -180,11 +178,11 @@ class Follower:
         """What is shown, as its number and its tables in short. What was replaced twice meanwhile can't be read."""
         with contextlib.suppress(FileNotFoundError):
             number = int(os.readlink(self.folder / "latest"))
-            tables = [(self.folder / str(number) / f"{table}.json").read_bytes() for table in TABLES]
+            tables = in_short((self.folder / str(number) / f"{table}.json").read_bytes() for table in TABLES)
             self.seen.add(number)
-            if number not in self.publisher.copies or tables != self.publisher.shown(number):
-                self.odd.append((number, in_short(tables)))
-            return number, in_short(tables)
+            if tables != self.publisher.shown.get(number):
+                self.odd.append((number, tables))
+            return number, tables
         return 0, []
 
     def catch_up(self):
@@ -248,11 +246,9 @@ def let_follow(run, publisher, followers, folder, stale, last):
             running = [pool.submit(follower.run, limit) for follower, limit in zip(chosen, limits)]
             publisher.publish()
             if publisher.number not in SKIPPED:
-                before = tree(folder)
                 publisher.note_export()
                 statuses.append(export(publisher.url, folder))
                 odd += first_odd(tree(folder), publisher.files())
-                odd += [path for path, data in before.items() if path != "manifest.json" and tree(folder)[path] != data]
             if publisher.number == 2 * last // 3:
                 shutil.rmtree(stale)
                 shutil.copytree(folder, stale)
@@ -322,7 +318,8 @@ def check_losses(run, publisher, folder, begun):
                          (follower.run()[0], follower.look()[0], [cut.asked[path] for path in copies]), (1, before, [0] * 3))
         follower = lead(run, publisher, run.folder / "cut", good)
         run.report.equal("and goes on at the next run, by deltas",
-                         (follower.run(), follower.look(), [good.asked[path] for path in copies]), ((0, ""), wanted, [0] * 3))
+                         (follower.run(), follower.look(), [good.asked[path] for path in copies]),
+                         ((0, ""), wanted, [0] * 3))
         asked = sum(good.asked.values())
         run.report.equal("then it asks for the manifest alone",
                          (follower.run(), sum(good.asked.values()) - asked), ((0, ""), 1))
@@ -339,7 +336,8 @@ def check_lies(run, publisher, folder, begun):
     """Servers with a changed digit in a copy, in a delta, or in a delta and its SHA-256, and a follower whose own table has
     one."""
     last, wanted, base = publisher.number, publisher.latest(), int(os.readlink(begun / "latest"))
-    for name, path in {"copy": f"lei/{last}.json", "delta": f"lei/{base}-{last}.json", "list": f"rr/{base}-{last}.json"}.items():
+    changed = {"copy": f"lei/{last}.json", "delta": f"lei/{base}-{last}.json", "list": f"rr/{base}-{last}.json"}
+    for name, path in changed.items():
         shutil.copytree(folder, run.folder / f"lies-{name}")
         other_digit(run.folder / f"lies-{name}" / path)
     list_anew(run.folder / "lies-list", last, f"rr/{base}-{last}.json")
