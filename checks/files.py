@@ -385,6 +385,19 @@ def check_killed_exports(run, publisher, stale):
     run.report.equal("the files are the register's copies", in_short(copies), publisher.latest()[1])
 
 
+def check_two_at_once(run, publisher, stale):
+    """Two exports into one folder at a time, and then two followers."""
+    folder = run.folder / "twice"
+    shutil.copytree(stale, folder)
+    exports = [start([EXPORT, folder], LEIREG_URL=publisher.url) for _ in range(2)]
+    run.report.equal("two exports at once end well", [finish(each) for each in exports], [(0, "")] * 2)
+    with Files(folder) as files:
+        follower = Follower(run, run.folder / "both", [files.url], publisher)
+        follows = [start(follower.command, LEIREG_PROGRAM=follower.program) for _ in range(2)]
+        run.report.equal("and so do two followers of one folder", [finish(each) for each in follows], [(0, "")] * 2)
+    run.report.equal("which show the register's copies", follower.look(), publisher.latest())
+
+
 def check_overtaken(run, publisher, folder):
     """A response breaks off, and the next export is overtaken by a publication in its middle."""
     def breaks(path):
@@ -431,7 +444,7 @@ def without_moment(data):
     return re.sub(rb'^{"contentDate":"[^"]*"', b"{", data)
 
 
-def check_taking_over(run, publisher, store):
+def check_taking_over(run, publisher, store, folder):
     """The register's server is killed. Another one over a copy of the store and its log takes over, and so does an empty one
     to which the entries are replayed."""
     copies, tables = ask_copies(publisher.server), ask_copies(publisher.server, "csv")
@@ -441,18 +454,28 @@ def check_taking_over(run, publisher, store):
     with Server(run.program, "--store", copied) as second:
         run.report.equal("a copy of the store serves the same copies", in_short(ask_copies(second)), in_short(copies))
     with Server(run.program, "--store", replayed) as second:
+        check_other_register(run, second, folder, "the register has 0 publications, and the folder")
         status, written = finish(start([REPLAY, copied], LEIREG_URL=f"http://127.0.0.1:{second.port}"))
         run.report.equal("a replay of its entries gets the same answers", (status, written),
                          (0, f"{2 * publisher.number + 1} entries have the answers that they had\n"))
         run.report.equal("and serves the same copies in CSV", in_short(ask_copies(second, "csv")), in_short(tables))
         run.report.equal("and in JSON but for their moment", in_short(map(without_moment, ask_copies(second))),
                          in_short(map(without_moment, copies)))
+        (folder / "manifest.json").unlink()
+        check_other_register(run, second, folder, "is there with other bytes")
         publisher.server = second
         publisher.publish()
         run.report.equal("and goes on", publisher.wrong[:1], [])
         stores.alter(copied, "UPDATE entry SET answer = CAST(replace(answer, 'ACCEPTED', 'C20') AS BLOB) WHERE seq = 2")
         status, written = finish(start([REPLAY, copied], LEIREG_URL=publisher.url))
         run.report.equal("a replay reports an entry with another answer", (status, written[:21]), (1, "entry 2 was answered "))
+
+
+def check_other_register(run, server, folder, cause):
+    """A register with a history of its own isn't exported into the folder of another one."""
+    before = tree(folder)
+    status, written = export(f"http://127.0.0.1:{server.port}", folder)
+    run.report.equal(f"an export is refused: {cause}", (status, cause in written, tree(folder) == before), (1, True, True))
 
 
 def check(run):
@@ -464,6 +487,7 @@ def check(run):
         publisher = Publisher(run, server)
         folder, stale = check_history(run, publisher)
         check_killed_exports(run, publisher, stale)
+        check_two_at_once(run, publisher, stale)
         begun = run.folder / "follower-1"
         check_overtaken(run, publisher, folder)
         check_losses(run, publisher, folder, begun)
@@ -471,4 +495,4 @@ def check(run):
         check_lies(run, publisher, folder, begun)
         check_old_copies(run, publisher, folder, stale)
         run.report.equal("the register answers as the model does", publisher.wrong[:1], [])
-        check_taking_over(run, publisher, store)
+        check_taking_over(run, publisher, store, folder)
