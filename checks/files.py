@@ -1,11 +1,11 @@
 """Publications leave as files that never change, and followers of any servers of them show the register's copies.
 
-A register makes publications in which all three tables change. `leireg-files` exports most of them: each file is compared
-with that of a model, also after it was killed, after a response that broke off and after a publication that was made
-meanwhile. Eight followers run meanwhile over three servers of these files: one is stale, one loses a third of what it is
-asked for, and one is nginx behind a slow proxy. Some followers are killed. Whatever they show at any time is one
-publication, and at the end the register's. Further followers meet deltas that are gone or broken off, and servers that lie.
-A copy of the store, and a replay of its entries, serve the same copies as the register."""
+A register makes publications in which all three tables change. `leireg-files` exports most of them, and each file is
+compared with that of a model. So it is after an export was killed, after a response broke off, and if the register
+publishes in the middle of an export. Eight followers run over three servers of these files: one is stale, one loses a
+third of what it is asked for, and one is nginx behind a slow proxy. Some followers are killed. Whatever they show at
+any time is one publication, and at the end the register's latest. Further followers meet deltas that are gone or broken
+off, and servers that lie. A copy of the store, and a replay of its entries, serve the same copies as the register."""
 import concurrent.futures
 import contextlib
 import hashlib
@@ -161,7 +161,7 @@ def first_odd(seen, wanted):
 
 
 class Follower:
-    """A folder that follows some servers, and what it showed at any time: how often, and whatever was no publication."""
+    """A folder that follows some servers. It has the publications that were seen in it, and whatever was none."""
 
     def __init__(self, run, folder, urls, publisher):
         self.folder, self.command, self.publisher = folder, [FOLLOW, *urls, folder], publisher
@@ -217,11 +217,13 @@ def check_history(run, publisher):
     shutil.copytree(folder, stale)
     with contextlib.ExitStack() as servers:
         old, losing = servers.enter_context(Files(stale)), servers.enter_context(Files(folder, loses_a_third(run.seed)))
-        socket = servers.enter_context(nginx(run.folder / "nginx", folder))
-        slow = f"{servers.enter_context(SlowProxy(socket, RATE)).url}/publish"
+        address = f"unix:{run.folder / 'nginx' / 'socket'}"
+        servers.enter_context(nginx(run.folder / "nginx", folder, address))
+        slow = f"{servers.enter_context(SlowProxy(address, RATE)).url}/publish"
         sets = [[slow], [losing.url], [old.url, slow], [losing.url, old.url], [losing.url, slow], [slow, losing.url],
                 [old.url, losing.url, slow], [slow, old.url, losing.url]]
-        followers = [Follower(run, run.folder / f"follower-{place}", urls, publisher) for place, urls in enumerate(sets, 1)]
+        followers = [Follower(run, run.folder / f"follower-{place}", urls, publisher)
+                     for place, urls in enumerate(sets, 1)]
         is_over = threading.Event()
         watcher = threading.Thread(target=watch, args=(followers, is_over))
         watcher.start()
@@ -264,13 +266,15 @@ def report_followers(run, publisher, followers, ends):
     report = run.report
     report.equal("each of the eight followers comes to its end", ends, [True] * len(followers))
     number, tables = publisher.latest()
-    report.equal("and shows the register's copies", [each.look() for each in followers], [(number, tables)] * len(followers))
-    linked = [in_short((each.folder / f"{table}.json").read_bytes() for table in TABLES) for each in followers]
+    shown = [follower.look() for follower in followers]
+    report.equal("and shows the register's copies", shown, [(number, tables)] * len(followers))
+    linked = [in_short((follower.folder / f"{table}.json").read_bytes() for table in TABLES) for follower in followers]
     report.equal("also by the links to its tables", linked, [tables] * len(followers))
     report.equal("whatever was shown at any time was one publication",
                  [odd for follower in followers for odd in follower.odd[:1]], [])
     kills, seen = sum(follower.kills for follower in followers), sum(len(follower.seen) for follower in followers)
-    report.holds("some were killed, and some publications were seen", kills > 2 and seen > 2 * len(followers), (kills, seen))
+    has_happened = kills > 2 and seen > 2 * len(followers)
+    report.holds("some were killed, and some publications were seen", has_happened, (kills, seen))
     report.note(f"the followers were killed {kills} times, and were seen to show {seen} publications")
 
 
@@ -312,10 +316,12 @@ def check_losses(run, publisher, folder, begun):
     with Files(folder, loses("gone")) as gone, Files(folder, loses("cut")) as cut, Files(folder) as good:
         follower = lead(run, publisher, run.folder / "gone", gone, begun=begun)
         run.report.equal("where deltas are gone, a follower begins anew from the copies",
-                         (follower.run()[0], follower.look(), [gone.asked[path] for path in copies]), (0, wanted, [1] * 3))
+                         (follower.run()[0], follower.look(), [gone.asked[path] for path in copies]),
+                         (0, wanted, [1] * 3))
         follower = lead(run, publisher, run.folder / "cut", cut, begun=begun)
         run.report.equal("where they break off, it waits",
-                         (follower.run()[0], follower.look()[0], [cut.asked[path] for path in copies]), (1, before, [0] * 3))
+                         (follower.run()[0], follower.look()[0], [cut.asked[path] for path in copies]),
+                         (1, before, [0] * 3))
         follower = lead(run, publisher, run.folder / "cut", good)
         run.report.equal("and goes on at the next run, by deltas",
                          (follower.run(), follower.look(), [good.asked[path] for path in copies]),
@@ -329,12 +335,13 @@ def check_stale(run, publisher, stale):
     """A follower of the latest publication gets a server that doesn't have it."""
     with Files(stale) as old:
         follower = lead(run, publisher, run.folder / "cut", old)
-        run.report.equal("a stale server changes nothing", (follower.run(), follower.look()[0]), ((0, ""), publisher.number))
+        run.report.equal("a stale server changes nothing",
+                         (follower.run(), follower.look()), ((0, ""), publisher.latest()))
 
 
 def check_lies(run, publisher, folder, begun):
-    """Servers with a changed digit in a copy, in a delta, or in a delta and its SHA-256, and a follower whose own table has
-    one."""
+    """Servers have a changed digit in a copy, in a delta, or in a delta whose SHA-256 is changed too. A follower has one
+    in its own table."""
     last, wanted, base = publisher.number, publisher.latest(), int(os.readlink(begun / "latest"))
     changed = {"copy": f"lei/{last}.json", "delta": f"lei/{base}-{last}.json", "list": f"rr/{base}-{last}.json"}
     for name, path in changed.items():
@@ -346,8 +353,8 @@ def check_lies(run, publisher, folder, begun):
             folder, run.folder / "lies-copy", run.folder / "lies-delta", run.folder / "lies-list")]
         follower = lead(run, publisher, run.folder / "new", copy)
         status, written = follower.run()
-        run.report.equal("a copy with another digit is noticed", (status, follower.look()[0], "another SHA-256" in written),
-                         (1, 0, True))
+        run.report.equal("a copy with another digit is noticed",
+                         (status, follower.look()[0], "another SHA-256" in written), (1, 0, True))
         follower = lead(run, publisher, run.folder / "new", copy, good)
         run.report.equal("and another server has it right", (follower.run()[0], follower.look()), (0, wanted))
         for server, what in ((delta, "a delta with another digit"), (listed, "one that its list confirms")):
@@ -363,7 +370,7 @@ def check_lies(run, publisher, folder, begun):
 
 
 def check_killed_exports(run, publisher, stale):
-    """An export is killed at any time. Each file that has its final name is whole, and the next run makes the others."""
+    """An export is killed at any time. Each file with its final name is whole, and the next run makes the others."""
     chance, odd, whole, kills = random.Random(run.seed), [], {}, 0
     times = QUICK_KILLED_EXPORTS if run.is_quick else KILLED_EXPORTS
     for place in range(times):
@@ -445,14 +452,23 @@ def without_moment(data):
 
 
 def check_taking_over(run, publisher, store, folder):
-    """The register's server is killed. Another one over a copy of the store and its log takes over, and so does an empty one
-    to which the entries are replayed."""
-    copies, tables = ask_copies(publisher.server), ask_copies(publisher.server, "csv")
+    """The register's server is killed. Another one over a copy of the store and its log takes over. So does an empty one
+    to which the entries are sent again."""
+    copied, replayed, copies = run.folder / "copied.db", run.folder / "replayed.db", ask_copies(publisher.server)
     publisher.server.end(signal.SIGKILL)
-    copied, replayed = run.folder / "copied.db", run.folder / "replayed.db"
     stores.copy_files(store, copied)
-    with Server(run.program, "--store", copied) as second:
+    with Server(run.program, "--store", copied) as second, Files(folder) as files:
         run.report.equal("a copy of the store serves the same copies", in_short(ask_copies(second)), in_short(copies))
+        publisher.server = second
+        publisher.publish()
+        publisher.note_export()
+        run.report.equal("its next publication is exported into the same folder",
+                         (export(publisher.url, folder), first_odd(tree(folder), publisher.files())), ((0, ""), []))
+        follower = lead(run, publisher, run.folder / "later", files)
+        run.report.equal("and a follower of the first register shows it", (follower.run(), follower.look()),
+                         ((0, ""), publisher.latest()))
+        run.report.equal("which it got by deltas", files.asked[f"/lei/{publisher.number}.json"], 0)
+        copies, tables = ask_copies(second), ask_copies(second, "csv")
     with Server(run.program, "--store", replayed) as second:
         check_other_register(run, second, folder, "the register has 0 publications, and the folder")
         status, written = finish(start([REPLAY, copied], LEIREG_URL=f"http://127.0.0.1:{second.port}"))
@@ -468,14 +484,16 @@ def check_taking_over(run, publisher, store, folder):
         run.report.equal("and goes on", publisher.wrong[:1], [])
         stores.alter(copied, "UPDATE entry SET answer = CAST(replace(answer, 'ACCEPTED', 'C20') AS BLOB) WHERE seq = 2")
         status, written = finish(start([REPLAY, copied], LEIREG_URL=publisher.url))
-        run.report.equal("a replay reports an entry with another answer", (status, written[:21]), (1, "entry 2 was answered "))
+        run.report.equal("a replay reports an entry with another answer",
+                         (status, written[:21]), (1, "entry 2 was answered "))
 
 
 def check_other_register(run, server, folder, cause):
     """A register with a history of its own isn't exported into the folder of another one."""
     before = tree(folder)
     status, written = export(f"http://127.0.0.1:{server.port}", folder)
-    run.report.equal(f"an export is refused: {cause}", (status, cause in written, tree(folder) == before), (1, True, True))
+    run.report.equal(f"an export is refused: {cause}",
+                     (status, cause in written, tree(folder) == before), (1, True, True))
 
 
 def check(run):

@@ -1,5 +1,5 @@
-"""Servers of published files as followers meet them, and a proxy that changes what a register answers. Each has a free port
-and is a context that ends it."""
+"""Servers of published files as followers meet them, and a proxy that changes what a register answers. Each is a
+context that ends it."""
 from __future__ import annotations
 
 import collections
@@ -17,21 +17,21 @@ import time
 from checks.common.servers import WAIT
 
 NGINX = shutil.which("nginx", path="/usr/sbin:/usr/local/sbin:/usr/bin")
-# nginx as one process, over a Unix socket, with all that it writes in a folder.
+# nginx as one process, with all that it writes in a folder.
 NGINX_CONFIGURATION = """
 daemon off; master_process off; pid {folder}/pid; error_log {folder}/log;
 events {{ }}
 http {{
-    access_log off; gzip on; gzip_min_length 1; gzip_types application/json;
+    access_log off; sendfile on; gzip on; gzip_types application/json; types {{ application/json json; }}
     client_body_temp_path {folder}/body; proxy_temp_path {folder}/proxy; fastcgi_temp_path {folder}/fastcgi;
     uwsgi_temp_path {folder}/uwsgi; scgi_temp_path {folder}/scgi;
-    server {{ listen unix:{folder}/socket; location /publish/ {{ alias {files}/; types {{ application/json json; }} }} }}
+    server {{ listen {address}; location /publish/ {{ alias {files}/; }} }}
 }}
 """
 
 
 class Threads(http.server.ThreadingHTTPServer):
-    """A server whose connections have a thread each."""
+    """A server at a free port whose connections have a thread each."""
 
     def __init__(self, handler):
         super().__init__(("127.0.0.1", 0), handler)
@@ -74,11 +74,12 @@ class FileReply(Reply):
 
 
 class Files(Threads):
-    """Serves the files of a folder. `loses` says, by a path and how often it was asked for, whether that is `gone` or is
+    """Serves the files of a folder. `loses` says, by a path and how often it was asked for, whether that is `gone` or
     `cut` this time. `asked` has the paths that were asked for, and how often."""
 
     def __init__(self, folder, loses=lambda path, times: None):
-        self.folder, self.loses, self.asked, self.lock = pathlib.Path(folder), loses, collections.Counter(), threading.Lock()
+        self.folder, self.loses = pathlib.Path(folder), loses
+        self.asked, self.lock = collections.Counter(), threading.Lock()
         super().__init__(FileReply)
 
     def take(self, path):
@@ -91,27 +92,36 @@ class Files(Threads):
 
 
 @contextlib.contextmanager
-def nginx(folder, files):
-    """nginx, which serves files below /publish/ over a Unix socket in a folder. The context is the path of the socket."""
+def nginx(folder, files, address):
+    """nginx, which serves files below /publish/ at an address: a host and a port, or `unix:` and a path. The folder is
+    for what it writes."""
     folder.mkdir()
-    configuration, path = folder / "nginx.conf", folder / "socket"
-    configuration.write_text(NGINX_CONFIGURATION.format(folder=folder, files=files))
+    configuration = folder / "nginx.conf"
+    configuration.write_text(NGINX_CONFIGURATION.format(folder=folder, files=files, address=address))
     with subprocess.Popen([NGINX, "-c", configuration, "-e", folder / "log"], stderr=subprocess.DEVNULL) as process:
         try:
-            wait_for_socket(path)
-            yield path
+            wait_for(address)
+            yield
         finally:
             process.terminate()
 
 
-def wait_for_socket(path):
+def connect(address):
+    """A connection to such an address."""
+    if not address.startswith("unix:"):
+        return socket.create_connection(address.split(":"), WAIT)
+    peer = socket.socket(socket.AF_UNIX)
+    peer.connect(address.removeprefix("unix:"))
+    return peer
+
+
+def wait_for(address):
     end = time.monotonic() + WAIT
     while True:
-        with contextlib.suppress(OSError), socket.socket(socket.AF_UNIX) as peer:
-            peer.connect(str(path))
-            return
+        with contextlib.suppress(OSError):
+            return connect(address).close()
         if time.monotonic() > end:
-            raise RuntimeError(f"nothing listens on {path}")
+            raise RuntimeError(f"nothing listens at {address}")
         time.sleep(0.01)
 
 
@@ -119,8 +129,7 @@ class SlowReply(socketserver.BaseRequestHandler):
     STEP = 4_096
 
     def handle(self):
-        with socket.socket(socket.AF_UNIX) as real:
-            real.connect(str(self.server.path))
+        with connect(self.server.address) as real:
             head = b""
             while b"\r\n\r\n" not in head:
                 head += self.request.recv(self.STEP) or b"\r\n\r\n"
@@ -131,10 +140,10 @@ class SlowReply(socketserver.BaseRequestHandler):
 
 
 class SlowProxy(Threads):
-    """Passes on what a server at a Unix socket sends, at so many bytes a second."""
+    """Passes on what a server at an address sends, at so many bytes a second."""
 
-    def __init__(self, path, rate):
-        self.path, self.rate = path, rate
+    def __init__(self, address, rate):
+        self.address, self.rate = address, rate
         super().__init__(SlowReply)
 
 
@@ -151,8 +160,8 @@ class RegisterReply(Reply):
 
 
 class Between(Threads):
-    """Stands between a register and who reads it. `before` is called with each path before the register is asked, and may
-    say `cut`."""
+    """Stands between a register and who reads it. `before` is called with each path before the register is asked. If it
+    says `cut`, the response breaks off."""
 
     def __init__(self, port, before):
         self.port, self.before = port, before
