@@ -20,7 +20,7 @@ import threading
 
 from checks.common import stores
 from checks.common.file_servers import NGINX, Between, Files, SlowProxy, nginx
-from checks.common.inputs import ISSUER, TABLES, answer_to_accredit, answer_to_upload, compact
+from checks.common.inputs import FORMS, ISSUER, TABLES, answer_to_accredit, answer_to_upload, compact
 from checks.common.programs import ROOT
 from checks.common.servers import Server
 from checks.mirrors import Held, change_items
@@ -340,8 +340,8 @@ def check_stale(run, publisher, stale):
 
 
 def check_lies(run, publisher, folder, begun):
-    """Servers have a changed digit in a copy, in a delta, or in a delta whose SHA-256 is changed too. A follower has one
-    in its own table."""
+    """Servers have another digit in a copy, in a delta, or in a delta whose SHA-256 fits. A follower has one in a table
+    of its own."""
     last, wanted, base = publisher.number, publisher.latest(), int(os.readlink(begun / "latest"))
     changed = {"copy": f"lei/{last}.json", "delta": f"lei/{base}-{last}.json", "list": f"rr/{base}-{last}.json"}
     for name, path in changed.items():
@@ -451,39 +451,45 @@ def without_moment(data):
     return re.sub(rb'^{"contentDate":"[^"]*"', b"{", data)
 
 
-def check_taking_over(run, publisher, store, folder):
-    """The register's server is killed. Another one over a copy of the store and its log takes over. So does an empty one
-    to which the entries are sent again."""
-    copied, replayed, copies = run.folder / "copied.db", run.folder / "replayed.db", ask_copies(publisher.server)
+def check_copied_store(run, publisher, store, folder):
+    """The register's server is killed, and another one over a copy of the store and its log goes on. Returns the copy of
+    the store, and the register's copies by their forms."""
+    copied, before = run.folder / "copied.db", ask_copies(publisher.server)
     publisher.server.end(signal.SIGKILL)
     stores.copy_files(store, copied)
     with Server(run.program, "--store", copied) as second, Files(folder) as files:
-        run.report.equal("a copy of the store serves the same copies", in_short(ask_copies(second)), in_short(copies))
+        run.report.equal("a copy of the store serves the same copies", in_short(ask_copies(second)), in_short(before))
         publisher.server = second
         publisher.publish()
         publisher.note_export()
         run.report.equal("its next publication is exported into the same folder",
                          (export(publisher.url, folder), first_odd(tree(folder), publisher.files())), ((0, ""), []))
         follower = lead(run, publisher, run.folder / "later", files)
-        run.report.equal("and a follower of the first register shows it", (follower.run(), follower.look()),
-                         ((0, ""), publisher.latest()))
-        run.report.equal("which it got by deltas", files.asked[f"/lei/{publisher.number}.json"], 0)
-        copies, tables = ask_copies(second), ask_copies(second, "csv")
-    with Server(run.program, "--store", replayed) as second:
-        check_other_register(run, second, folder, "the register has 0 publications, and the folder")
-        status, written = finish(start([REPLAY, copied], LEIREG_URL=f"http://127.0.0.1:{second.port}"))
-        run.report.equal("a replay of its entries gets the same answers", (status, written),
-                         (0, f"{2 * publisher.number + 1} entries have the answers that they had\n"))
-        run.report.equal("and serves the same copies in CSV", in_short(ask_copies(second, "csv")), in_short(tables))
-        run.report.equal("and in JSON but for their moment", in_short(map(without_moment, ask_copies(second))),
-                         in_short(map(without_moment, copies)))
+        run.report.equal("a follower of the first register gets it by deltas",
+                         (follower.run(), follower.look(), files.asked[f"/lei/{publisher.number}.json"]),
+                         ((0, ""), publisher.latest(), 0))
+        return copied, {form: ask_copies(second, form) for form in FORMS}
+
+
+def check_replay(run, publisher, store, copies, folder):
+    """The entries of a store are sent to an empty register, which goes on."""
+    with Server(run.program) as other:
+        check_other_register(run, other, folder, "the register has 0 publications, and the folder")
+        url, count = f"http://127.0.0.1:{other.port}", 2 * publisher.number + 1
+        run.report.equal("a replay of the entries gets the same answers",
+                         finish(start([REPLAY, store], LEIREG_URL=url)),
+                         (0, f"{count} entries have the answers that they had\n"))
+        run.report.equal("and serves the same copies in CSV",
+                         in_short(ask_copies(other, "csv")), in_short(copies["csv"]))
+        run.report.equal("and in JSON but for their moment", in_short(map(without_moment, ask_copies(other))),
+                         in_short(map(without_moment, copies["json"])))
         (folder / "manifest.json").unlink()
-        check_other_register(run, second, folder, "is there with other bytes")
-        publisher.server = second
+        check_other_register(run, other, folder, "is there with other bytes")
+        publisher.server = other
         publisher.publish()
         run.report.equal("and goes on", publisher.wrong[:1], [])
-        stores.alter(copied, "UPDATE entry SET answer = CAST(replace(answer, 'ACCEPTED', 'C20') AS BLOB) WHERE seq = 2")
-        status, written = finish(start([REPLAY, copied], LEIREG_URL=publisher.url))
+        stores.alter(store, "UPDATE entry SET answer = CAST(replace(answer, 'ACCEPTED', 'C20') AS BLOB) WHERE seq = 2")
+        status, written = finish(start([REPLAY, store], LEIREG_URL=url))
         run.report.equal("a replay reports an entry with another answer",
                          (status, written[:21]), (1, "entry 2 was answered "))
 
@@ -513,4 +519,5 @@ def check(run):
         check_lies(run, publisher, folder, begun)
         check_old_copies(run, publisher, folder, stale)
         run.report.equal("the register answers as the model does", publisher.wrong[:1], [])
-        check_taking_over(run, publisher, store, folder)
+        copied, copies = check_copied_store(run, publisher, store, folder)
+        check_replay(run, publisher, copied, copies, folder)
