@@ -517,7 +517,7 @@ function groupOf(code, published) {
   if (!entity) {
     return section(title, make("p", {}, "This publication doesn't have the record yet."));
   }
-  return section(title, ...parentLines(entity), ...disagreementOf(entity),
+  return section(title, parentLines(entity), ...disagreementOf(entity),
     make("p", {}, link(`group/${code}`, "Open the group")));
 }
 
@@ -529,10 +529,9 @@ function parentLines(entity) {
     return make("p", {}, `${label}: `, ...(parent ? [link(`lei/${parent[0]}`, nameOf(parent[1])), " ", codeOf(parent[0])]
       : [text, exception?.[2] ? ` (${exception[2]})` : ""]));
   };
-  return [
+  return make("div", {class: "lines"},
     line("Direct parent", entity.direct, "DIRECT_ACCOUNTING_CONSOLIDATION_PARENT"),
-    line("Ultimate parent", entity.ultimate, "ULTIMATE_ACCOUNTING_CONSOLIDATION_PARENT"),
-  ];
+    line("Ultimate parent", entity.ultimate, "ULTIMATE_ACCOUNTING_CONSOLIDATION_PARENT"));
 }
 
 /** What a person is told if the reported ultimate parent isn't the one that the direct parents lead to. */
@@ -674,13 +673,21 @@ async function showGroup(code) {
     nodes: [
       make("p", {class: "under"}, link(`lei/${code}`, codeOf(code))),
       ...disagreementOf(entity),
-      section("Parents", ...parentLines(entity), ...(above.length > 0 ? [make("p", {}, "The direct parents, from the top:"),
+      section("Parents", parentLines(entity), ...(above.length > 0 ? [make("p", {}, "The direct parents, from the top:"),
         parentList(above)] : [])),
-      section("Subsidiaries", treeOf(index, code, entity), make("p", {class: "hint"},
-        "Arrow keys move in the tree and open and close it. Enter shows the record.")),
+      subsidiariesOf(index, code, entity),
       relationTable(entity),
     ],
   };
+}
+
+/** The tree of those whose direct parents lead to an entity, or that there are none. */
+function subsidiariesOf(index, code, entity) {
+  if (!entity.children) {
+    return section("Subsidiaries", make("p", {}, "No entity reports this one as its direct parent."));
+  }
+  return section("Subsidiaries", treeOf(index, code, entity), make("p", {class: "hint"},
+    "Arrow keys move in the tree, open it and close it. Enter shows the record."));
 }
 
 /** The direct parent, its direct parent and so on, from the top down. A walk that comes back to itself is cut. */
@@ -721,10 +728,10 @@ function relationTable(entity) {
 /** The tree below an entity, whose first level is open. */
 function treeOf(index, code, entity) {
   const tree = make("ul", {class: "tree", role: "tree", "aria-label": "Subsidiaries"});
-  const root = treeItem([code, entity.name, (entity.children ?? []).length, Number(Boolean(entity.disagrees))], 1, 1, 1);
+  const root = treeItem([code, entity.name, entity.children.length, entity.disagrees ? 1 : 0], 1, 1, 1);
   root.tabIndex = 0;
   tree.append(root);
-  addChildren(root, entity.children ?? []);
+  addChildren(root, entity.children);
   setOpen(root, true);
   tree.addEventListener("keydown", (event) => moveInTree(index, tree, event));
   tree.addEventListener("click", (event) => {
@@ -894,8 +901,8 @@ function chooser(choices, base, number) {
   fill();
   later.addEventListener("change", fill);
   const form = make("form", {class: "choice"},
-    make("div", {}, make("label", {for: "later"}, "To publication"), later),
-    make("div", {}, make("label", {for: "earlier"}, "From publication"), earlier),
+    make("div", {}, make("label", {for: "later"}, "Publication"), later),
+    make("div", {}, make("label", {for: "earlier"}, "compared with"), earlier),
     make("button", {type: "submit"}, "Show changes"));
   form.addEventListener("submit", (event) => {
     event.preventDefault();
@@ -934,11 +941,13 @@ function changeItem(table, {action, record}, {names, rows}) {
   const steps = action === "PUT" && before ? differences(before, record) : [];
   const fact = action === "DROP" ? "Removed" : !rows ? "Added or changed" : !before ? "Added"
     : steps.length > 0 ? "Changed" : "Sent again, the same as before";
-  return make("li", {},
-    ...{lei: aboutRecord, rr: aboutRelationship, repex: aboutException}[table](record, before, names),
-    make("div", {class: "change"}, fact),
+  const [head, ...facts] = {lei: aboutRecord, rr: aboutRelationship, repex: aboutException}[table](record, before, names);
+  return make("li", {}, head,
+    make("div", {class: "facts"}, make("span", {class: "change"}, fact), ...facts.filter((each) => each !== null)),
     steps.length > 0 ? make("ul", {class: "steps"}, ...steps) : null);
 }
+
+// What a change is about: a line, and what stands below it.
 
 function aboutRecord(record, before) {
   const name = (before ?? record)["Entity.LegalName"];
@@ -946,36 +955,35 @@ function aboutRecord(record, before) {
   const status = record["Registration.RegistrationStatus"];
   return [
     make("div", {class: "name"}, link(`lei/${record.LEI}`, name ? nameOf(name, language) : record.LEI)),
-    make("div", {class: "facts"}, codeOf(record.LEI), status ? inWords(status) : null),
+    codeOf(record.LEI), status ? inWords(status) : null,
   ];
 }
 
 function aboutRelationship(record, _before, names) {
   const [start, kind, end] = KEYS.rr.map((name) => record[name]);
   const words = RELATIONSHIPS[kind]?.[0] ?? kind;
-  const who = (code) => link(`group/${code}`, nameOf(names[code] ?? code));
+  const who = (code) => make("span", {class: "name"}, link(`group/${code}`, nameOf(names[code] ?? code)));
   return [
-    make("div", {}, make("span", {class: "name"}, who(start)), ` ${words.charAt(0).toLowerCase()}${words.slice(1)} `,
-      make("span", {class: "name"}, who(end))),
-    make("div", {class: "facts"}, codeOf(start), codeOf(end)),
+    make("div", {}, who(start), ` ${words.charAt(0).toLowerCase()}${words.slice(1)} `, who(end)),
+    codeOf(start), codeOf(end),
   ];
 }
 
 function aboutException(record, _before, names) {
+  const parent = EXCEPTIONS[record.ExceptionCategory] ?? record.ExceptionCategory;
   return [
     make("div", {class: "name"}, link(`lei/${record.LEI}`, nameOf(names[record.LEI] ?? record.LEI))),
-    make("div", {class: "facts"}, codeOf(record.LEI), `Why it reports no ${EXCEPTIONS[record.ExceptionCategory]
-      ?? record.ExceptionCategory}`, record.ExceptionReason ? inWords(record.ExceptionReason) : null),
+    codeOf(record.LEI), `Why it reports no ${parent}`, record.ExceptionReason ? inWords(record.ExceptionReason) : null,
   ];
 }
 
-/** A line for each field that differs between two rows. */
+/** A line for each field that differs between two rows, in the order in which a record is shown. */
 function differences(before, after) {
-  const names = Array.from(new Set([...Object.keys(before), ...Object.keys(after)]));
-  return names.filter((name) => before[name] !== after[name]).map((name) => {
+  const names = new Set([...FIELDS.keys(), ...Object.keys(before), ...Object.keys(after)]);
+  return Array.from(names).filter((name) => before[name] !== after[name]).map((name) => {
     const [label, kind] = FIELDS.get(name) ?? [name, "text"];
-    const value = (row) => Object.hasOwn(row, name) ? valueOf(kind, row[name]) : "absent";
-    return make("li", {}, `${label}: `, make("del", {}, value(before)), " → ", make("ins", {}, value(after)));
+    const value = (row, tag) => name in row ? make(tag, {}, valueOf(kind, row[name])) : "absent";
+    return make("li", {}, `${label}: `, value(before, "del"), " → ", value(after, "ins"));
   });
 }
 
@@ -991,17 +999,23 @@ async function showCounts() {
     title: "Counts over publications",
     told: `${many(publications.length, "publication")}, from ${dateOf(publications[0].contentDate)} to ${
       dateOf(publications.at(-1).contentDate)}.`,
-    nodes: [...shown.map(([table, title]) => chart(title, publications, table)), countTable(publications)],
+    nodes: [
+      ...shown.map(([table, title]) => chart(title, publications, table)),
+      make("p", {class: "small"}, "Each scale goes from the least count to the greatest one. Publications stand at equal "
+        + "distances."),
+      countTable(publications),
+    ],
   };
 }
 
-const WIDTH = 720, HEIGHT = 170, LEFT = 62, RIGHT = 14, TOP = 12, BOTTOM = 26;
+const WIDEST = 720, HEIGHT = 170, LEFT = 62, RIGHT = 14, TOP = 12, BOTTOM = 26;
 
 /** A line over the publications in order, between the least and the greatest count. */
 function chart(title, publications, table) {
+  const width = Math.min(WIDEST, document.getElementById("view").clientWidth);
   const counts = publications.map((each) => each.counts[table]);
   const least = Math.min(...counts), most = Math.max(...counts);
-  const x = (at) => LEFT + (WIDTH - LEFT - RIGHT) * (counts.length > 1 ? at / (counts.length - 1) : 0.5);
+  const x = (at) => LEFT + (width - LEFT - RIGHT) * (counts.length > 1 ? at / (counts.length - 1) : 0.5);
   const y = (value) => TOP + (HEIGHT - TOP - BOTTOM) * (most > least ? (most - value) / (most - least) : 0.5);
   const first = publications[0], last = publications.at(-1);
   const label = `${title}: ${count(counts[0])} in publication ${first.publication}, ${count(counts.at(-1))} in publication ${
@@ -1010,8 +1024,8 @@ function chart(title, publications, table) {
   const points = counts.length <= 40 ? counts.map((value, at) => draw("circle",
     {class: "point", cx: x(at), cy: y(value), r: 3.5})) : [];
   return make("figure", {}, make("figcaption", {}, title),
-    draw("svg", {viewBox: `0 0 ${WIDTH} ${HEIGHT}`, role: "img", "aria-label": label},
-      ...Array.from(marks, (value) => draw("line", {class: "axis", x1: LEFT, x2: WIDTH - RIGHT, y1: y(value), y2: y(value)})),
+    draw("svg", {viewBox: `0 0 ${width} ${HEIGHT}`, role: "img", "aria-label": label},
+      ...Array.from(marks, (value) => draw("line", {class: "axis", x1: LEFT, x2: width - RIGHT, y1: y(value), y2: y(value)})),
       ...Array.from(marks, (value) => draw("text", {x: LEFT - 8, y: y(value) + 4, "text-anchor": "end"}, count(value))),
       draw("polyline", {class: "curve", points: counts.map((value, at) => `${x(at)},${y(value)}`).join(" ")}), ...points,
       ...timeMarks(publications, x)));
@@ -1043,6 +1057,7 @@ function countTable(publications) {
 
 const VIEWS = {"": showHome, lei: showRecord, search: showSearch, group: showGroup, changes: showChanges, counts: showCounts};
 const TITLE = "Register of legal entities";
+const LONG_TITLE = 120;
 let turns = 0;
 
 function showTrouble(trouble) {
@@ -1088,8 +1103,10 @@ async function show() {
   if (turn !== turns) {
     return;
   }
-  const heading = make("h1", {tabindex: "-1"}, view.heading ?? view.title);
-  document.getElementById("view").replaceChildren(heading, ...view.nodes.filter((node) => node !== null));
+  const heading = document.getElementById("heading");
+  heading.className = view.title.length > LONG_TITLE ? "long" : "";
+  heading.replaceChildren(view.heading ?? view.title);
+  document.getElementById("view").replaceChildren(...view.nodes.filter((node) => node !== null));
   document.getElementById("status").textContent = view.told ?? "";
   document.title = parts[0] ? `${view.title} - ${TITLE}` : TITLE;
   markPlace(parts);

@@ -18,7 +18,7 @@ KEYS = {"Tab": "\ue004", "Enter": "\ue007", "End": "\ue010", "Home": "\ue011", "
         "ArrowRight": "\ue014", "ArrowDown": "\ue015"}
 # The browser does nothing by itself, and knows no address but that of this machine.
 WORDS = ["--headless=new", "--no-first-run", "--disable-background-networking", "--disable-component-update",
-         "--disable-default-apps", "--disable-sync", "--disable-gpu", "--disable-dev-shm-usage", "--no-proxy-server",
+         "--disable-default-apps", "--disable-sync", "--disable-gpu", "--disable-dev-shm-usage", "--no-proxy-server", "--hide-scrollbars",
          "--force-color-profile=srgb", "--lang=en", "--host-resolver-rules=MAP * ~NOTFOUND , EXCLUDE 127.0.0.1"]
 
 
@@ -49,6 +49,8 @@ class Browser:
         wanted = {"browserName": "chrome", "goog:chromeOptions": {"args": words},
                   "goog:loggingPrefs": {"browser": "ALL", "performance": "ALL"}}
         self.session = self.call("POST", "/session", {"capabilities": {"alwaysMatch": wanted}})["sessionId"]
+        self.open("about:blank")
+        self.addresses()
 
     def __enter__(self):
         return self
@@ -105,12 +107,13 @@ class Browser:
         self.ask("POST", f"{place}/value", {"text": text})
 
     def click(self, selector, text=""):
-        """Clicks on the first element of a selector, or the first whose text has this one."""
+        """Clicks on the first element of a selector, or on one with a text: the first that has no other, or that has it."""
         self.ask("POST", f"/element/{self.element(selector, text)}/click", {})
 
     def element(self, selector, text=""):
-        found = self.run("return [...document.querySelectorAll(arguments[0])].find("
-                         "each => each.textContent.includes(arguments[1]))", selector, text)
+        found = self.run("const found = [...document.querySelectorAll(arguments[0])]; return found.find(each => "
+                         "each.textContent === arguments[1]) ?? found.find(each => each.textContent.includes(arguments[1]))",
+                         selector, text)
         if found is None:
             raise RuntimeError(f"there is no {selector} with {text!r}")
         return next(iter(found.values()))

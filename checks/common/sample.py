@@ -19,46 +19,46 @@ issuer|Havneby Registreringskontor|da|Aarhus|DK
 nordhavn|Nordhavn Holding A/S|da|Copenhagen|DK
 shipping|Nordhavn Shipping A/S|da|Copenhagen|DK
 energi|Nordhavn Energi AB|sv|Malmö|SE
-logistik|Nordhavn Logistik GmbH|de|Hamburg|DE
-terminals|Nordhavn Rotterdam Terminals B.V.|nl|Rotterdam|NL
-gdynia|Nordhavn Gdynia Sp. z o.o.|pl|Gdynia|PL
-harbour|Nordhavn Sadamateenused OÜ|et|Tallinn|EE
-bunkering|Nordhavn Bunkering Pte. Ltd.|en|Singapore|SG
-branch|Nordhavn Shipping A/S, Singapore Branch|en|Singapore|SG
-baltia|Baltia Merenkulku Oy|fi|Helsinki|FI
-manager|Alder Bridge Fund Management S.à r.l.|fr|Luxembourg|LU
-fund|Alder Bridge Infrastructure Fund|en|Luxembourg|LU
-subfund|Alder Bridge Infrastructure Fund - Wind|en|Luxembourg|LU
 horlogerie|Manufacture d’Horlogerie du Haut-Doubs SA|fr|Besançon|FR
 tiefbau|Straßen- und Tiefbau Weiß GmbH|de|Gießen|DE
 zeytin|İzmir Zeytin Ürünleri A.Ş.|tr|İzmir|TR
 alyki|Ελληνικές Αλυκές Α.Ε.|el|Μεσολόγγι|GR
-solar|Балкански Соларни Паркове АД|bg|Пловдив|BG
-kogyo|東海精密工業株式会社|ja|名古屋市|JP
-haewoon|한빛해운 주식회사|ko|부산|KR
-oasis|شركة الواحة للتجارة ش.م.م|ar|دبي|AE
-galil|מאפיית הגליל בע״מ|he|חיפה|IL
-lodz|Łódzkie Zakłady Włókiennicze S.A.|pl|Łódź|PL
-litoral|Ação Litoral Comércio Ltda.|pt|Santos|BR
-kapiti|Kāpiti Wind Farms Limited|en|Paraparaumu|NZ
+baltia|Baltia Merenkulku Oy|fi|Helsinki|FI
+manager|Alder Bridge Fund Management S.à r.l.|fr|Luxembourg|LU
 kettle|Kettle & Crane Brewing Ltd|en|Leeds|GB
 crane|Crane Breweries plc|en|York|GB
 meridian|Meridian Quay Insurance plc|en|Bristol|GB
 beech|Copper Beech Foods Limited|en|Cork|IE
 double|Copper Beech Foods Ltd|en|Cork|IE
+lodz|Łódzkie Zakłady Włókiennicze S.A.|pl|Łódź|PL
+galil|מאפיית הגליל בע״מ|he|חיפה|IL
+solar|Балкански Соларни Паркове АД|bg|Пловдив|BG
+logistik|Nordhavn Logistik GmbH|de|Hamburg|DE
+fund|Alder Bridge Infrastructure Fund|en|Luxembourg|LU
+kogyo|東海精密工業株式会社|ja|名古屋市|JP
+haewoon|한빛해운 주식회사|ko|부산|KR
+oasis|شركة الواحة للتجارة ش.م.م|ar|دبي|AE
+terminals|Nordhavn Rotterdam Terminals B.V.|nl|Rotterdam|NL
+gdynia|Nordhavn Gdynia Sp. z o.o.|pl|Gdynia|PL
+branch|Nordhavn Shipping A/S, Singapore Branch|en|Singapore|SG
 saddle|Saddler & Daughters Ltd|en|Walsall|GB
 oldmill|Old Mill Paper Company|en|Dayton|US
-prairie|Prairie Line Rail Holdings, Inc.|en|Omaha|US
-tamarack|Tamarack Timber Cooperative|en|Thunder Bay|CA
+subfund|Alder Bridge Infrastructure Fund - Wind|en|Luxembourg|LU
+harbour|Nordhavn Sadamateenused OÜ|et|Tallinn|EE
 markup|<b>Bold</b> & <img src=x onerror=alert(1)> Trading Ltd|en|Reading|GB
 long|LONG|de|Köln|DE
+kapiti|Kāpiti Wind Farms Limited|en|Paraparaumu|NZ
+litoral|Ação Litoral Comércio Ltda.|pt|Santos|BR
+bunkering|Nordhavn Bunkering Pte. Ltd.|en|Singapore|SG
+prairie|Prairie Line Rail Holdings, Inc.|en|Omaha|US
+tamarack|Tamarack Timber Cooperative|en|Thunder Bay|CA
 viento|Viento Sur Energía S.A.|es|Cádiz|ES
 fjord|Fjordlaks Oppdrett AS|nb|Bodø|NO
 dolomiti|Latteria Dolomiti Società Cooperativa|it|Belluno|IT
 """.strip().replace("|LONG|", f"|{LONG}|")
 CATEGORIES = {"branch": "BRANCH", "fund": "FUND", "subfund": "FUND", "saddle": "SOLE_PROPRIETOR"}
 # How many of the entities are there in each of the first publications.
-GROWTH = [18, 22, 25, 27, 32, 35, 38]
+GROWTH = [18, 20, 23, 26, 29, 34, 38]
 # Who is whose direct parent, and who reports another ultimate parent than these come to.
 PARENTS = {"shipping": "nordhavn", "energi": "nordhavn", "logistik": "nordhavn", "terminals": "logistik",
            "gdynia": "logistik", "harbour": "terminals", "bunkering": "shipping"}
