@@ -1,12 +1,13 @@
 """A person can look things up on the page: in a browser, with a mouse, with the keyboard alone, and on a phone.
 
-Fourteen things that a person would do, over a register of entities as they are met in a real one, which nginx serves with the
-page and its index from one origin under a strict policy. What has to be shown is worked out from what was uploaded, and
-from docs/FORMATS.md. No error reaches the console, and no request leaves the origin. Each control has a name, and each is
-reached with the keyboard. Searches of the page find what `leireg search` finds. A register of 100,000 records opens within
-a second. It needs Debian's packages nginx-light, chromium and chromium-driver."""
+The check does fourteen things that a person would do, over a register of entities as they are met in a real one. nginx
+serves it with the page and its index from one origin, under a strict policy. What has to be shown is worked out from
+what was uploaded, and from docs/FORMATS.md. No error reaches the console, and no request leaves the origin. Each control
+has a name, and each is reached with the keyboard. Searches of the page find what `leireg search` finds. A register of
+100,000 records opens within a second. Debian's packages nginx-light, chromium and chromium-driver have to be there."""
 from __future__ import annotations
 
+import datetime
 import itertools
 import json
 import os
@@ -17,8 +18,8 @@ import urllib.parse
 
 from checks.common import sample
 from checks.common.browsers import Browser
-from checks.common.inputs import (EXCEPTION_NAMES, ISSUER, TODAY, answer_to_accredit, answer_to_upload, code, compact,
-                                  record, relationship)
+from checks.common.inputs import (ISSUER, TODAY, answer_to_accredit, answer_to_upload, code, compact, record,
+                                  relationship)
 from checks.common.programs import ROOT, measure, run_command
 from checks.common.sample import CODES, NAMES
 from checks.common.servers import Server
@@ -35,8 +36,8 @@ LARGE, BATCH = 100_000, 4_000
 IS_SHOWN = "return document.getElementById('main')?.getAttribute('aria-busy') === 'false'"
 CONTRAST = 4.5
 WIDE, PHONE = (1000, 900), (360, 740)
-# Roles of the elements that a person acts on.
-CONTROLS = {"button", "link", "searchbox", "textbox", "combobox", "treeitem"}
+# Roles of the elements that have to have a name.
+CONTROLS = {"button", "link", "searchbox", "textbox", "combobox", "tree", "treeitem", "image"}
 
 
 class Desk:
@@ -67,7 +68,8 @@ class Desk:
         return self.browser.run("return document.querySelector(arguments[0])?.innerText ?? ''", selector)
 
     def texts(self, selector):
-        return self.browser.run("return [...document.querySelectorAll(arguments[0])].map(each => each.innerText)", selector)
+        return self.browser.run("return [...document.querySelectorAll(arguments[0])].map(each => each.innerText)",
+                                selector)
 
     def has(self, what, *texts, selector="main"):
         """Reports whether each of these texts is shown."""
@@ -76,7 +78,8 @@ class Desk:
 
     def focused(self):
         """The name of the element that has the focus."""
-        return self.browser.run("const at = document.activeElement; return at.getAttribute('aria-label') ?? at.innerText")
+        return self.browser.run("const at = document.activeElement; "
+                                "return at.getAttribute('aria-label') ?? at.innerText")
 
     def end_task(self, name, expected=None):
         """Reports that nothing but what is expected came to the console, and that no request left the origin."""
@@ -113,7 +116,8 @@ def publish_sample(run, server):
     """Takes the sample register through its publications. Returns them as files, with the indexes."""
     report, numbers, entries = run.report, itertools.count(1), itertools.count(2)
     published = Published(run.folder / "publish", sample.PUBLICATIONS, TODAY)
-    report.equal("the issuer is accredited", server.ask("PUT", f"/v1/issuers/{ISSUER}"), (200, answer_to_accredit(1).decode()))
+    report.equal("the issuer is accredited", server.ask("PUT", f"/v1/issuers/{ISSUER}"),
+                 (200, answer_to_accredit(1).decode()))
     for publication, uploads in enumerate(sample.all_uploads(), 1):
         for upload in uploads:
             number, entry = next(numbers), next(entries)
@@ -122,7 +126,8 @@ def publish_sample(run, server):
                          server.ask("PUT", f"/v1/issuers/{ISSUER}/uploads/{number}", compact(upload)), (200, answer))
         status, text = server.ask("PUT", f"/v1/publications/{publication}")
         report.equal(f"publication {publication} is made", (status, json.loads(text)["entry"]), (201, next(entries)))
-        published.add(lambda path: ask(server, path), publication, [base for base in (publication - 2, publication - 1) if base > 0])
+        bases = [base for base in (publication - 2, publication - 1) if base > 0]
+        published.add(lambda path: ask(server, path), publication, bases)
         make_index(run, published)
     return published
 
@@ -156,12 +161,20 @@ def find_by_name(desk):
     desk.has("it says how many", "2 names found, in publication 8.", selector="#status")
     desk.picture("search")
     desk.go(f"lei/{CODES['branch']}", desk.browser.click, ".name a", "Singapore")
-    desk.has("the record has its fields in words", "Category Entity.EntityCategory Branch", "Country "
-             "Entity.LegalAddress.Country Singapore (SG)", "Validation Registration.ValidationSources Fully corroborated",
-             "First registered Registration.InitialRegistrationDate 14 May 2019, 08:30:00 UTC")
+    desk.has("the record has its fields in words", "Category Entity.EntityCategory Branch",
+             "Country Entity.LegalAddress.Country Singapore (SG)",
+             "Validation Registration.ValidationSources Fully corroborated",
+             "First registered Registration.InitialRegistrationDate 14 May 2019, 08:30:00 UTC",
+             f"Next renewal Registration.NextRenewalDate {renewal_of('branch')}")
     desk.report.equal("the title names it", desk.browser.run("return document.title"),
                       "Nordhavn Shipping A/S, Singapore Branch - Register of legal entities")
     desk.report.equal("and the focus is at its heading", desk.focused(), "Nordhavn Shipping A/S, Singapore Branch")
+
+
+def renewal_of(word):
+    """The moment of the next renewal of an entity, as a person reads it."""
+    day = datetime.date.fromisoformat(sample.entity(word)["Registration.NextRenewalDate"][:10])
+    return f"{day.day} {day:%B %Y}, 00:00:00 UTC"
 
 
 def find_by_folded_name(desk):
@@ -171,8 +184,9 @@ def find_by_folded_name(desk):
                        ("ｋāｐｉｔｉ wind", "kapiti"), ("الواحة", "oasis"), ("東海精密工業株式会社", "kogyo")]:
         desk.find(text, f"search/{urllib.parse.quote(text)}")
         desk.report.equal(f"{text} finds a name", desk.texts(".name a"), [NAMES[word]])
+    desk.picture("scripts")
     desk.find("ahoi nordhavn", "search/ahoi%20nordhavn")
-    desk.has("a search without a name says so", "No names found.", "No legal name in the latest publication has each of")
+    desk.has("a search without a name says so", "No names found", "No legal name in the latest publication has each of")
     desk.find("?!", "search/%3F!")
     desk.has("and so does one without a word", "This text has no word to search for.")
 
@@ -183,18 +197,19 @@ def learn_what_is_wrong(desk):
     for text, *told in [
         ("506700GE1G29325QX36", "has 20 characters, and this text has 19, which is 1 too few"),
         ("506700GE1G29325QX3633", "this text has 21, which is 1 too many"),
-        ("506700gE1G29325QX363", "Character 7 is wrong: it is “g”, and has to be a digit or one of the capital letters A to Z.",
+        ("506700gE1G29325QX363",
+         "Character 7 is wrong: it is “g”, and has to be a digit or one of the capital letters A to Z.",
          "In capitals it is an LEI: 506700GE1G29325QX363"),
         ("506700GE1G29325QX3G3", "Character 19 is wrong: it is “G”, and has to be a digit."),
         ("HWUPKR0MPOU8FGXBT349", "they are 49, and for the 18 characters before them they would have to be 94"),
-        # 0…01 leaves 0 · 100 and so needs 98 - 100 % 97.
+        # The number with 00 is 100, which leaves 3, and 98 - 3 is 95.
         ("00000000000000000194", "they are 94, and for the 18 characters before them they would have to be 95"),
     ]:
         desk.find(text, f"lei/{text}")
         desk.has(f"{text} isn't an LEI, and the page says why", "This isn't an LEI", *told)
     desk.find("506700GE1G29325QX364", "lei/506700GE1G29325QX364")
-    desk.has("the check digits that it would have are shown", "they are 64, and for the 18 characters before them they would "
-             "have to be 63")
+    desk.has("the check digits that it would have are shown",
+             "they are 64, and for the 18 characters before them they would have to be 63")
     desk.report.equal("the wrong part is marked", desk.texts("mark"), ["64"])
     desk.picture("wrong-code")
     desk.go(f"lei/{ISSUER}", desk.browser.click, ".note a")
@@ -205,6 +220,7 @@ def ask_for_unknown(desk):
     """Asks for an LEI that nobody has."""
     desk.open(f"lei/{code(77)}")
     desk.has("an LEI without a record says so", "No record for this LEI", "The register holds no record for this LEI.")
+    desk.picture("unknown")
 
 
 def open_tree_by_keys(desk):
@@ -213,20 +229,19 @@ def open_tree_by_keys(desk):
     press_until(desk, "Open the group")
     desk.go(f"group/{CODES['nordhavn']}", desk.browser.press, "Enter")
     press_until(desk, "Nordhavn Holding")
-    for keys, name in [("ArrowDown ArrowRight", "Nordhavn Logistik GmbH"), ("ArrowRight", "Nordhavn Rotterdam Terminals"),
-                       ("ArrowRight", "Nordhavn Rotterdam Terminals"), ("ArrowRight", "Nordhavn Sadamateenused")]:
-        opened = len(desk.texts("[role=treeitem]"))
+    for keys, name, items in [("ArrowDown ArrowRight", "Nordhavn Logistik", 6), ("ArrowRight", "Nordhavn Rotterdam", 6),
+                              ("ArrowRight", "Nordhavn Rotterdam", 7), ("ArrowRight", "Nordhavn Sadamateenused", 7)]:
         desk.browser.press(*keys.split())
-        desk.browser.wait_for("return (document.activeElement.getAttribute('aria-label') ?? '').startsWith(arguments[0]) || "
-                              "document.querySelectorAll('[role=treeitem]').length > arguments[1]", name, opened)
+        desk.browser.wait_for("return document.querySelectorAll('[role=treeitem]').length === arguments[0]", items)
         desk.report.equal(f"{keys} leads to {name}", desk.focused()[:len(name)], name)
-    desk.report.equal("the tree has three levels below the root", desk.browser.run(
-        "return [...document.querySelectorAll('[role=treeitem]')].map(item => [item.dataset.code, "
-        "Number(item.getAttribute('aria-level'))])"),
-        [[CODES[word], level] for word, level in tree_in_order()])
+    seen = desk.browser.run("return [...document.querySelectorAll('[role=treeitem]')].map(item => "
+                            "[item.dataset.code, Number(item.getAttribute('aria-level'))])")
+    desk.report.equal("the tree has three levels below the root", seen,
+                      [[CODES[word], level] for word, level in tree_in_order()])
     desk.picture("group")
-    for keys, name in [("ArrowLeft", "Nordhavn Rotterdam"), ("ArrowLeft ArrowLeft", "Nordhavn Logistik"), ("Home", "Nordhavn Hold"),
-                       ("End", "Nordhavn Shipping"), ("ArrowUp", "Nordhavn Energi")]:
+    for keys, name in [("ArrowLeft", "Nordhavn Rotterdam"), ("ArrowLeft ArrowLeft", "Nordhavn Logistik"),
+                       ("Home", "Nordhavn Holding"), ("End", "Nordhavn Shipping"), ("n", "Nordhavn Holding"),
+                       ("End ArrowUp", "Nordhavn Energi")]:
         desk.browser.press(*keys.split())
         desk.report.equal(f"{keys} leads to {name}", desk.focused()[:len(name)], name)
     desk.go(f"lei/{CODES['energi']}", desk.browser.press, "Enter")
@@ -257,10 +272,12 @@ def see_disagreement(desk):
     desk.open(f"group/{CODES['gdynia']}")
     desk.has("a disagreement is told", "The parents disagree.", f"Reported as ultimate parent: {NAMES['baltia']}",
              f"The direct parents lead to: {NAMES['nordhavn']}")
-    desk.report.equal("the parents stand above, from the top", desk.texts(".parents a"), [NAMES["nordhavn"], NAMES["logistik"]])
+    desk.report.equal("the parents stand above, from the top", desk.texts(".parents a"),
+                      [NAMES["nordhavn"], NAMES["logistik"]])
     desk.picture("disagreement")
     desk.open(f"lei/{CODES['bunkering']}")
-    desk.has("so is one with nobody", "Reported as ultimate parent: nobody", f"The direct parents lead to: {NAMES['nordhavn']}")
+    desk.has("so is one with nobody", "Reported as ultimate parent: nobody",
+             f"The direct parents lead to: {NAMES['nordhavn']}")
     desk.open(f"group/{CODES['logistik']}")
     marked = desk.browser.run("return [...document.querySelectorAll('[role=treeitem]')].filter(item => "
                               "item.querySelector(':scope > .row .mark')).map(item => item.dataset.code)")
@@ -271,13 +288,16 @@ def see_changes(desk):
     """Sees what changed since last night."""
     desk.open()
     desk.go("changes/7/8", desk.browser.click, "main a", "What changed since publication 7")
-    desk.report.equal("the records that changed are named", sorted(desk.texts("section:nth-of-type(1) .name a")), sorted(
-        NAMES[word] for word in "fjord dolomiti kettle double meridian tamarack energi".split()))
-    desk.has("an update has the fields that differ", "Meridian Quay Insurance plc Changed", "Registration: status: Issued → Lapsed",
-             "Legal address: city: Malmö → Helsingborg", "Event: type: absent → Merger", "Fjordlaks Oppdrett AS Added")
+    changed = "fjord dolomiti kettle double meridian tamarack energi".split()
+    desk.report.equal("the records that changed are named", sorted(desk.texts("section:nth-of-type(1) .name a")),
+                      sorted(NAMES[word] for word in changed))
+    desk.has("an update has the fields that differ", "Meridian Quay Insurance plc Changed",
+             "Registration: status: Issued → Lapsed", "Legal address: city: Malmö → Helsingborg",
+             "Event: type: absent → Merger", "Fjordlaks Oppdrett AS Added")
     desk.has("a relationship that was annulled is gone",
              f"{NAMES['bunkering']} ultimately consolidated by {NAMES['nordhavn']} Removed")
-    desk.has("one that was sent again is the same", f"{NAMES['subfund']} sub-fund of {NAMES['fund']} Sent again, the same as before")
+    desk.has("one that was sent again is the same",
+             f"{NAMES['subfund']} sub-fund of {NAMES['fund']} Sent again, the same as before")
     desk.has("exceptions come and go", f"{NAMES['dolomiti']} Added", f"{NAMES['horlogerie']} Removed",
              "Why it reports no ultimate parent")
     desk.picture("changes")
@@ -318,6 +338,7 @@ def share_link(desk):
     """Shares a link, which opens the same view elsewhere, and goes back."""
     desk.open()
     desk.find("Nordhavn", "search/Nordhavn")
+    desk.picture("link")
     desk.go(f"lei/{CODES['shipping']}", desk.browser.click, ".name a", "Nordhavn Shipping A/S")
     address, seen = desk.browser.run("return location.href"), desk.text()
     desk.go("search/Nordhavn", desk.browser.back)
@@ -330,8 +351,9 @@ def share_link(desk):
 def use_phone(desk):
     """Uses the page on a phone."""
     desk.browser.resize(*PHONE)
-    for fragment in ["", "search/nordhavn", f"lei/{CODES['long']}", f"lei/{CODES['kettle']}", f"group/{CODES['nordhavn']}",
-                     f"group/{CODES['subfund']}", "changes/7/8", "changes/6/8", "counts", "lei/506700GE1G29325QX364"]:
+    for fragment in ["", "search/nordhavn", f"lei/{CODES['long']}", f"lei/{CODES['kettle']}",
+                     f"group/{CODES['nordhavn']}", f"group/{CODES['subfund']}", "changes/7/8", "changes/6/8", "counts",
+                     "lei/506700GE1G29325QX364"]:
         desk.open(fragment)
         desk.report.equal(f"#/{fragment} has no more than the width of a phone",
                           desk.browser.run("return document.documentElement.scrollWidth"), PHONE[0])
@@ -347,8 +369,13 @@ def read_markup(desk):
     desk.open("search/trading")
     desk.report.equal("in a list, too", desk.texts(".name a"), [sample.MARKUP])
     desk.go("search/%3Cb%3Etrading%3C%2Fb%3E", desk.browser.run, "location.hash = '#/search/%3Cb%3Etrading%3C%2Fb%3E'")
-    desk.report.equal("and makes no elements", desk.browser.run("return document.querySelectorAll('main b, main img').length"), 0)
+    made = desk.browser.run("return document.querySelectorAll('main b, main img').length")
+    desk.report.equal("and makes no elements", made, 0)
     desk.picture("markup")
+
+
+# What of a record is shown in other words than it has.
+IN_WORDS = re.compile("Country|Jurisdiction|xmllang|Category|Status|Type|Sources")
 
 
 def read_all_fields(desk):
@@ -359,16 +386,18 @@ def read_all_fields(desk):
         shown = dict(desk.browser.run(
             "return [...document.querySelectorAll('.fields tr')].map(row => [row.querySelector('.raw').textContent, "
             "row.querySelector('time')?.getAttribute('datetime') ?? row.querySelector('td').textContent.trim()])"))
-        plain = {name for name in row if not re.search(r"Country|Jurisdiction|xmllang|Category|Status|Type|Sources", name)}
+        plain = {name: text for name, text in row.items() if not IN_WORDS.search(name)}
         desk.report.equal(f"{row['Entity.LegalName'][:40]} has all its fields", sorted(shown), sorted(row))
-        desk.report.equal("with their texts", {name: shown.get(name) for name in plain}, {name: row[name] for name in plain})
+        desk.report.equal("with their texts", {name: shown.get(name) for name in plain}, plain)
+    desk.picture("record")
 
 
 def meet_outage(desk, server):
     """Meets a server that is down: the record can't be read, and what was published can."""
     server.end()
     desk.open(f"lei/{CODES['energi']}")
-    desk.has("the page says that the register doesn't answer", "The register doesn't answer at the moment (status 502).",
+    desk.has("the page says that the register doesn't answer",
+             "The register doesn't answer at the moment (status 502).",
              f"In publication 8 this LEI belongs to {NAMES['energi']}.", "Try again")
     desk.picture("outage")
     desk.find("energi", "search/energi")
@@ -378,28 +407,40 @@ def meet_outage(desk, server):
 # ---- what every view has
 
 
+# A view each, its fragment, and the roles that it has beside those of all views.
+VIEWS = [
+    ("home", "", {"searchbox", "button"}),
+    ("group", f"group/{CODES['nordhavn']}", {"tree", "treeitem"}),
+    ("record", f"lei/{CODES['kettle']}", {"table", "rowheader"}),
+    ("search", "search/nordhavn", {"list", "listitem"}),
+    ("changes", "changes/7/8", {"combobox"}),
+    ("counts", "counts", {"image", "table"}),
+]
+LANDMARKS = {"banner", "main", "contentinfo", "navigation", "search", "heading", "status"}
+
+
 def check_access(desk):
     """Each view has its landmarks, each control its name, and Tab reaches each."""
-    for name, fragment, roles in [("home", "", {"searchbox", "button"}), ("record", f"lei/{CODES['kettle']}", {"table", "rowheader"}),
-                                  ("search", "search/nordhavn", {"list", "listitem"}),
-                                  ("group", f"group/{CODES['nordhavn']}", {"tree", "treeitem"}),
-                                  ("changes", "changes/7/8", {"combobox"}), ("counts", "counts", {"image", "table"})]:
+    for name, fragment, roles in VIEWS[:2] if desk.run.is_quick else VIEWS:
         desk.open(fragment)
         nodes = [(node["role"]["value"], node.get("name", {}).get("value", ""))
                  for node in desk.browser.debug("Accessibility.getFullAXTree")["nodes"] if not node["ignored"]]
         seen = {role for role, _ in nodes}
-        wanted = {"banner", "main", "contentinfo", "navigation", "search", "heading", "status"} | roles
-        desk.report.equal(f"{name} has its roles", sorted(wanted - seen), [])
+        desk.report.equal(f"{name} has its roles", sorted((LANDMARKS | roles) - seen), [])
         desk.report.equal(f"each control of {name} has a name",
-                          [role for role, text in nodes if role in CONTROLS | {"image", "tree"} and not text.strip()], [])
-        desk.report.equal(f"Tab reaches each control of {name}", tab_order(desk), desk.browser.run(
-            "return [...document.querySelectorAll('a[href], button, input, select, [tabindex]')].filter(each => "
-            "each.tabIndex >= 0).map((each, at) => each.outerHTML.slice(0, 120))"))
+                          [role for role, text in nodes if role in CONTROLS and not text.strip()], [])
+        reached = desk.browser.run("return [...document.querySelectorAll('a[href], button, input, select, [tabindex]')]"
+                                   ".filter(each => each.tabIndex >= 0).map(each => each.outerHTML.slice(0, 120))")
+        desk.report.equal(f"Tab reaches each control of {name}", tab_order(desk), reached)
         for scheme in ("light", "dark"):
-            desk.browser.debug("Emulation.setEmulatedMedia", features=[{"name": "prefers-color-scheme", "value": scheme}])
+            set_scheme(desk, scheme)
             least = desk.browser.run(LEAST_CONTRAST)
             desk.report.holds(f"{name} has contrast where it is {scheme}", least[0] >= CONTRAST, least)
-    desk.browser.debug("Emulation.setEmulatedMedia", features=[])
+    set_scheme(desk, "light")
+
+
+def set_scheme(desk, scheme):
+    desk.browser.debug("Emulation.setEmulatedMedia", features=[{"name": "prefers-color-scheme", "value": scheme}])
 
 
 def tab_order(desk):
@@ -443,9 +484,9 @@ return found.reduce((least, each) => each[0] < least[0] ? each : least);
 def check_policy(desk):
     """The console tells what the policy refuses, so the silence of the other views says something."""
     desk.open()
-    desk.browser.run("const image = new Image(); image.src = 'http://127.0.0.2/x.png'; const style = "
-                     "document.createElement('style'); style.textContent = 'h1 { color: red }'; document.body.append(image, style)")
-    desk.browser.wait_for("return document.styleSheets.length >= 1")
+    desk.browser.run("const image = new Image(), style = document.createElement('style'); "
+                     "image.src = 'http://127.0.0.2/x.png'; style.textContent = 'h1 { color: red }'; "
+                     "document.body.append(image, style)")
     told = " ".join(entry["message"] for entry in desk.browser.log("browser"))
     desk.report.equal("the policy refuses an image of another origin and a style in the page",
                       [word for word in ("img-src", "style-src") if word not in told], [])
@@ -478,7 +519,8 @@ def check_searches(run, browser):
 def publish_names(run, number, names):
     """The files of a publication whose records have these names, and its index."""
     items = [{"LEI": code(place), "Entity.LegalName": name} for place, name in enumerate(names)]
-    sheets = {"lei": sheet_of("lei", items, 1), **{table: Sheet(table, {}, False, True, 1, MOMENT) for table in ("rr", "repex")}}
+    sheets = {table: Sheet(table, {}, False, True, 1, MOMENT) for table in ("rr", "repex")}
+    sheets["lei"] = sheet_of("lei", items, 1)
     published = Published(run.folder / f"names-{number}", 1, TODAY)
     published.add(lambda path: print_sheet(sheets[path.split("/")[3]], "json"), 1, [])
     make_index(run, published)
@@ -488,8 +530,9 @@ def publish_names(run, number, names):
 def found_by_page(browser, query):
     """How many names the page finds by the line of a query, and the LEIs on its page; or nothing if it refuses it."""
     _, page, text = query.removesuffix("\n").split(" ", 2)
-    return browser.run("return search(arguments[0], arguments[1]).then(({matches, names}) => [matches, names.map(([code]) => "
-                       "code)], (trouble) => trouble.status === 400 ? null : String(trouble))", text, int(page))
+    return browser.run("return search(arguments[0], arguments[1]).then("
+                       "({matches, names}) => [matches, names.map(([code]) => code)], "
+                       "(trouble) => trouble.status === 400 ? null : String(trouble))", text, int(page))
 
 
 def found_by_program(line):
@@ -502,29 +545,39 @@ def found_by_program(line):
 # ---- a large register
 
 
+def large_uploads(chance):
+    """The bodies of the uploads of a large register, where entities have ten children each. Each name ends in the number
+    of its record."""
+    words = "Alder Birch Cedar Delta Ember Fjord Grove Haven Inlet Juniper Kestrel Linden".split()
+    kinds = "Holding Capital Foods Shipping Energy Limited Trust Partners".split()
+    for first in range(1, LARGE + 1, BATCH):
+        numbers = range(first, min(first + BATCH, LARGE + 1))
+        names = [f"{chance.choice(words)} {chance.choice(words)} {chance.choice(kinds)} {number}" for number in numbers]
+        yield {"records": [record(number, {"Entity.LegalName": name}) for number, name in zip(numbers, names)]}
+        yield {"relationships": [relationship(number, number // 10) for number in numbers if number >= 10]}
+
+
+def publish_large(run, server):
+    """The files of the publication of a large register."""
+    server.ask("PUT", f"/v1/issuers/{ISSUER}")
+    for number, value in enumerate(large_uploads(random.Random(run.seed)), 1):
+        server.ask("PUT", f"/v1/issuers/{ISSUER}/uploads/{number}", compact(value))
+    made = json.loads(server.ask("PUT", "/v1/publications/1")[1])
+    run.report.equal("a large register is published", (made["lei"], made["rr"]), (LARGE, LARGE - 9))
+    published = Published(run.folder / "large", 1, TODAY)
+    published.add(lambda path: ask(server, path), 1, [])
+    return published
+
+
 def check_large(run, browser):
     """A register of 100,000 records opens its first view, and answers a search, within a second."""
-    words = ["Alder", "Birch", "Cedar", "Delta", "Ember", "Fjord", "Grove", "Haven", "Inlet", "Juniper", "Kestrel", "Linden"]
-    kinds = ["Holding", "Capital", "Foods", "Shipping", "Energy", "Limited", "Trust", "Partners"]
-    chance = random.Random(run.seed)
-    published = Published(run.folder / "large", 2, TODAY)
     with Server(run.program, workers=2) as server:
-        server.ask("PUT", f"/v1/issuers/{ISSUER}")
-        numbers = itertools.count(1)
-        for first in range(1, LARGE + 1, BATCH):
-            items = range(first, min(first + BATCH, LARGE + 1))
-            names = {number: f"{chance.choice(words)} {chance.choice(words)} {chance.choice(kinds)} {number}" for number in items}
-            for body in ({"records": [record(number, {"Entity.LegalName": names[number]}) for number in items]},
-                         {"relationships": [relationship(number, number // 10) for number in items if number >= 10]}):
-                status, text = server.ask("PUT", f"/v1/issuers/{ISSUER}/uploads/{next(numbers)}", compact(body))
-                if status != 200 or "C" in json.loads(text)["items"]:
-                    run.report.equal("an upload of a large register is taken", (status, text[:200]), 200)
-        server.ask("PUT", "/v1/publications/1")
-        published.add(lambda path: ask(server, path), 1, [])
+        published = publish_large(run, server)
         spent = measure(["env", f"LEIREG_PROGRAM={run.program}", PAGE / "make_index", published.folder])
-        files = [each for each in (published.folder / "index" / "1").rglob("*") if each.is_file()]
-        run.report.note(f"the index of {LARGE:,} records and {LARGE - 9:,} relationships took {spent.seconds:.1f} seconds and "
-                        f"{spent.memory / 1e6:.0f} MB, and has {len(files):,} files of {sum(f.stat().st_size for f in files) / 1e6:.1f} MB")
+        sizes = [each.stat().st_size for each in (published.folder / "index" / "1").rglob("*") if each.is_file()]
+        run.report.note(f"the index of {LARGE:,} records and {LARGE - 9:,} relationships took {spent.seconds:.1f} "
+                        f"seconds and {spent.memory / 1e6:.0f} MB, and has {len(sizes):,} files of "
+                        f"{sum(sizes) / 1e6:.1f} MB")
         with Site(run.folder / "large-site", PAGE, published.folder, server.port) as site:
             measure_views(run, Desk(run, browser, site))
 
@@ -545,7 +598,8 @@ def measure_views(run, desk):
         desk.go(fragment, desk.browser.run, f"location.hash = '#/{fragment}'")
         taken[what] = desk.browser.run(last) - begun
         desk.has(f"{what} is answered", wanted)
-    run.report.note(f"with {LARGE:,} records, " + ", ".join(f"{what} took {each:.0f} ms" for what, each in taken.items()))
+    told = ", ".join(f"{what} took {each:.0f} ms" for what, each in taken.items())
+    run.report.note(f"with {LARGE:,} records, {told}")
     run.report.equal("each is there within a second", {what: each for what, each in taken.items() if each >= 1_000}, {})
 
 

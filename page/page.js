@@ -1,7 +1,7 @@
 "use strict";
 
-// The page of a register of legal entities. It shows records of the server, and what the published files and their index
-// have: page/README.md describes both. Each view has a fragment of its own, such as #/lei/506700GE1G29325QX363.
+// The page of a register of legal entities. It shows records of the server, and what the published files and their
+// index have. Each view has a fragment of its own, such as #/lei/506700GE1G29325QX363. README.md describes them.
 
 const PUBLISHED = "publish/";
 const RECORDS = "v1/records/";
@@ -211,6 +211,11 @@ function codeOf(code) {
   return make("code", {}, code);
 }
 
+/** A code that leads to its record. */
+function linkOf(code) {
+  return link(`lei/${code}`, codeOf(code));
+}
+
 function momentOf(text) {
   if (!/^\d{4}-\d\d-\d\dT\d\d:\d\d:\d\dZ$/.test(text)) {
     return text;
@@ -223,7 +228,7 @@ function valueOf(kind, text, language) {
   switch (kind) {
     case "name": return nameOf(text, language);
     case "code": return codeOf(text);
-    case "codes": return make("span", {}, ...text.split(" ").flatMap((code) => [link(`lei/${code}`, codeOf(code)), " "]));
+    case "codes": return make("span", {}, ...text.split(" ").flatMap((code) => [linkOf(code), " "]));
     case "moment": return momentOf(text);
     case "country": return named(countryNames, text, text.slice(0, 2));
     case "language": return named(languageNames, text, text);
@@ -419,8 +424,8 @@ async function search(text, page) {
 async function showHome() {
   const {publications} = await readManifest();
   const latest = publications.at(-1);
-  const introduction = make("p", {}, "A Legal Entity Identifier (LEI) identifies a company, fund or branch in contracts, "
-    + "trades and reports. This register says who holds an LEI, who its parents are, and what became of it.");
+  const introduction = make("p", {}, "A Legal Entity Identifier (LEI) identifies a company, fund or branch in "
+    + "contracts, trades and reports. This register says who holds an LEI, who the parents are, and what became of it.");
   if (!latest) {
     return {title: "Look up a legal entity", nodes: [introduction, note("Nothing has been published yet.")]};
   }
@@ -433,7 +438,8 @@ async function showHome() {
       section(`Publication ${latest.publication}, of ${dateOf(latest.contentDate)}`,
         make("ul", {class: "tiles"}, tile(latest.counts.lei, "records"), tile(latest.counts.rr, "relationships"),
           tile(latest.counts.repex, "reporting exceptions")),
-        base ? make("p", {}, link(`changes/${base}/${latest.publication}`, `What changed since publication ${base}`)) : null,
+        base ? make("p", {}, link(`changes/${base}/${latest.publication}`,
+          `What changed since publication ${base}`)) : null,
         make("p", {}, link("counts", "Counts over all publications"))),
     ],
   };
@@ -521,12 +527,17 @@ function groupOf(code, published) {
     make("p", {}, link(`group/${code}`, "Open the group")));
 }
 
+/** The name of an entity, which leads to its record, and its LEI. */
+function entityLinks([code, name]) {
+  return [link(`lei/${code}`, nameOf(name)), " ", codeOf(code)];
+}
+
 /** A line for each parent: who it is, why none is reported, or that nothing is. */
 function parentLines(entity) {
   const line = (label, parent, category) => {
     const exception = (entity.exceptions ?? []).find(([each]) => each === category);
     const text = exception ? `none reported. Reason: ${inWords(exception[1]).toLowerCase()}` : "none reported";
-    return make("p", {}, `${label}: `, ...(parent ? [link(`lei/${parent[0]}`, nameOf(parent[1])), " ", codeOf(parent[0])]
+    return make("p", {}, `${label}: `, ...(parent ? entityLinks(parent)
       : [text, exception?.[2] ? ` (${exception[2]})` : ""]));
   };
   return make("div", {class: "lines"},
@@ -539,7 +550,7 @@ function disagreementOf(entity) {
   if (!entity.disagrees) {
     return [];
   }
-  const who = (parent) => parent ? [link(`lei/${parent[0]}`, nameOf(parent[1])), " ", codeOf(parent[0])] : ["nobody"];
+  const who = (parent) => parent ? entityLinks(parent) : ["nobody"];
   const [reported, computed] = entity.disagrees;
   return [note(
     make("p", {}, make("strong", {}, "The parents disagree.")),
@@ -552,8 +563,10 @@ async function showNoRecord(code, trouble) {
   if (trouble.status === 404) {
     return {
       title: "No record for this LEI",
-      nodes: [make("p", {class: "code"}, codeOf(code)), note("The register holds no record for this LEI. The code itself is "
-        + "well formed, and its check digits are right.")],
+      nodes: [
+        make("p", {class: "code"}, codeOf(code)),
+        note("The register holds no record for this LEI. The code is well formed, and its check digits are right."),
+      ],
     };
   }
   const published = await readEntityIfThere(code);
@@ -565,13 +578,13 @@ async function showNoRecord(code, trouble) {
 // ---- wrong codes
 
 function explainFault(code, fault) {
-  const explained = {length: explainLength, character: explainCharacter, digits: explainDigits}[fault.kind](code, fault);
+  const explain = {length: explainLength, character: explainCharacter, digits: explainDigits}[fault.kind];
   return {
     title: "This isn't an LEI",
     nodes: [
       make("p", {class: "code"}, markedCode(code, fault)),
-      note(...explained),
-      make("p", {}, "An LEI has 18 capital letters or digits, and then two check digits, which are computed from them."),
+      note(...explain(code, fault)),
+      make("p", {}, "An LEI has 18 capital letters or digits, and then two check digits, which come from these."),
       make("p", {}, link(`search/${encodeURIComponent(code)}`, "Search the names for this text instead")),
     ],
   };
@@ -607,7 +620,8 @@ function explainCharacter(code, {place, letter}) {
 function explainDigits(code, {given, wanted}) {
   const corrected = code.slice(0, 18) + wanted;
   return [
-    `Its check digits are wrong: they are ${given}, and for the 18 characters before them they would have to be ${wanted}.`,
+    `Its check digits are wrong: they are ${given}, and for the 18 characters before them they would have to be ${
+      wanted}.`,
     "So at least one of the 20 characters is mistyped, perhaps not one of the last two. Compare each with your source.",
     make("p", {}, "With the other check digits: ", link(`lei/${corrected}`, codeOf(corrected))),
   ];
@@ -619,12 +633,12 @@ async function showSearch(text = "", pageText = "1") {
   const page = Math.max(1, parseInt(pageText, 10) || 1);
   const {index, matches, names} = await search(text, page);
   const pages = Math.ceil(matches / PAGE_SIZE);
-  const told = matches === 0 ? "No names found." : `${many(matches, "name")} found${pages > 1 ? `, page ${page} of ${pages
-    }` : ""}, in publication ${index.publication}.`;
+  const place = pages > 1 ? `, page ${page} of ${pages}` : "";
+  const found = matches > 0 ? many(matches, "name") : "No names";
   return {
     title: `Names with “${text}”`,
     heading: make("span", {}, "Names with “", nameOf(text), "”"),
-    told,
+    told: `${found} found${place}, in publication ${index.publication}.`,
     nodes: [
       matches > 0 ? make("ul", {class: "list"}, ...names.map(foundName)) : noNames(text),
       pages > 1 ? pageLinks(text, page, pages) : null,
@@ -668,13 +682,12 @@ async function showGroup(code) {
   return {
     title,
     heading: make("span", {}, "Group of ", nameOf(entity.name)),
-    told: `${many((entity.children ?? []).length, "direct subsidiary", "direct subsidiaries")}, by publication ${
-      index.publication}.`,
+    told: `${entity.children ? many(entity.children.length, "direct subsidiary", "direct subsidiaries")
+      : "No direct subsidiaries"}, by publication ${index.publication}.`,
     nodes: [
       make("p", {class: "under"}, link(`lei/${code}`, codeOf(code))),
       ...disagreementOf(entity),
-      section("Parents", parentLines(entity), ...(above.length > 0 ? [make("p", {}, "The direct parents, from the top:"),
-        parentList(above)] : [])),
+      section("Parents", parentLines(entity), above.length > 0 ? parentList(above) : null),
       subsidiariesOf(index, code, entity),
       relationTable(entity),
     ],
@@ -703,8 +716,8 @@ async function parentsAbove(index, code, entity) {
 }
 
 function parentList(parents) {
-  return make("ol", {class: "parents"}, ...parents.map(([code, name]) =>
-    make("li", {}, link(`group/${code}`, nameOf(name)), " ", codeOf(code))));
+  const items = parents.map(([code, name]) => make("li", {}, link(`group/${code}`, nameOf(name)), " ", codeOf(code)));
+  return make("div", {}, make("p", {}, "The direct parents, from the top:"), make("ol", {class: "parents"}, ...items));
 }
 
 /** Relationships other than those to the parents that count. */
@@ -745,15 +758,16 @@ function treeOf(index, code, entity) {
 }
 
 function treeItem([code, name, children, disagrees], level, place, size) {
-  const text = [many(children, "subsidiary", "subsidiaries"), disagrees ? "parents disagree" : ""];
-  const item = make("li", {role: "treeitem", tabindex: "-1", "aria-level": level, "aria-posinset": place,
-    "aria-setsize": size, "aria-label": [name || code, code, ...text].filter((part) => part).join(", "), "data-code": code},
-  make("div", {class: "row"},
+  const below = many(children, "subsidiary", "subsidiaries");
+  const label = [name, code, below, disagrees ? "parents disagree" : ""].filter((part) => part !== "").join(", ");
+  const row = make("div", {class: "row"},
     make("span", {class: "twist", "aria-hidden": "true"}, children ? "▸" : "·"),
     make("div", {},
       make("a", {href: `#/lei/${code}`, tabindex: "-1"}, nameOf(name)),
-      make("div", {class: "facts"}, codeOf(code), children ? many(children, "subsidiary", "subsidiaries") : null,
-        disagrees ? make("span", {class: "mark"}, "Parents disagree") : null))));
+      make("div", {class: "facts"}, codeOf(code), children ? below : null,
+        disagrees ? make("span", {class: "mark"}, "Parents disagree") : null)));
+  const item = make("li", {role: "treeitem", tabindex: "-1", "aria-level": level, "aria-posinset": place,
+    "aria-setsize": size, "aria-label": label, "data-code": code}, row);
   if (children) {
     item.setAttribute("aria-expanded", "false");
   }
@@ -835,11 +849,17 @@ function moveInTree(index, tree, event) {
   };
   if (Object.hasOwn(actions, event.key)) {
     event.preventDefault();
-    const next = actions[event.key]();
-    if (next) {
-      focusItem(tree, next);
-    }
   }
+  const next = Object.hasOwn(actions, event.key) ? actions[event.key]() : nextByLetter(items, at, event.key);
+  if (next) {
+    focusItem(tree, next);
+  }
+}
+
+/** The next item whose name begins with what a key writes, from the top again after the last one. */
+function nextByLetter(items, at, key) {
+  const isNamed = (item) => item.getAttribute("aria-label").toLowerCase().startsWith(key.toLowerCase());
+  return key.length === 1 ? [...items.slice(at + 1), ...items.slice(0, at)].find(isNamed) : undefined;
 }
 
 // ---- changes
@@ -923,9 +943,8 @@ function changeSection({table, path, size, added, delta}) {
   }
   const rest = delta.recordCount > MOST_CHANGES
     ? make("p", {}, `The first ${MOST_CHANGES} of ${count(delta.recordCount)} changes are shown.`) : null;
-  return section(title, rest,
-    make("ul", {class: "list"}, ...delta.records.slice(0, MOST_CHANGES).map((change) => changeItem(table, change, added))),
-    file);
+  const items = delta.records.slice(0, MOST_CHANGES).map((change) => changeItem(table, change, added));
+  return section(title, rest, make("ul", {class: "list"}, ...items), file);
 }
 
 const KEYS = {
@@ -941,7 +960,8 @@ function changeItem(table, {action, record}, {names, rows}) {
   const steps = action === "PUT" && before ? differences(before, record) : [];
   const fact = action === "DROP" ? "Removed" : !rows ? "Added or changed" : !before ? "Added"
     : steps.length > 0 ? "Changed" : "Sent again, the same as before";
-  const [head, ...facts] = {lei: aboutRecord, rr: aboutRelationship, repex: aboutException}[table](record, before, names);
+  const about = {lei: aboutRecord, rr: aboutRelationship, repex: aboutException}[table];
+  const [head, ...facts] = about(record, before, names);
   return make("li", {}, head,
     make("div", {class: "facts"}, make("span", {class: "change"}, fact), ...facts.filter((each) => each !== null)),
     steps.length > 0 ? make("ul", {class: "steps"}, ...steps) : null);
@@ -1001,14 +1021,14 @@ async function showCounts() {
       dateOf(publications.at(-1).contentDate)}.`,
     nodes: [
       ...shown.map(([table, title]) => chart(title, publications, table)),
-      make("p", {class: "small"}, "Each scale goes from the least count to the greatest one. Publications stand at equal "
-        + "distances."),
+      make("p", {class: "small"}, "Each scale goes from the least count to the greatest one. Publications stand at "
+        + "equal distances."),
       countTable(publications),
     ],
   };
 }
 
-const WIDEST = 720, HEIGHT = 170, LEFT = 62, RIGHT = 14, TOP = 12, BOTTOM = 26;
+const WIDEST = 720, HEIGHT = 150, LEFT = 62, RIGHT = 14, TOP = 12, BOTTOM = 26;
 
 /** A line over the publications in order, between the least and the greatest count. */
 function chart(title, publications, table) {
@@ -1017,18 +1037,17 @@ function chart(title, publications, table) {
   const least = Math.min(...counts), most = Math.max(...counts);
   const x = (at) => LEFT + (width - LEFT - RIGHT) * (counts.length > 1 ? at / (counts.length - 1) : 0.5);
   const y = (value) => TOP + (HEIGHT - TOP - BOTTOM) * (most > least ? (most - value) / (most - least) : 0.5);
-  const first = publications[0], last = publications.at(-1);
-  const label = `${title}: ${count(counts[0])} in publication ${first.publication}, ${count(counts.at(-1))} in publication ${
-    last.publication}, least ${count(least)}, most ${count(most)}`;
-  const marks = new Set(most > least ? [least, most] : [least]);
+  const say = (at) => `${count(counts.at(at))} in publication ${publications.at(at).publication}`;
+  const label = `${title}: ${say(0)}, ${say(-1)}, least ${count(least)}, most ${count(most)}`;
+  const marks = Array.from(new Set([least, most]), (value) => [value, y(value)]);
   const points = counts.length <= 40 ? counts.map((value, at) => draw("circle",
     {class: "point", cx: x(at), cy: y(value), r: 3.5})) : [];
   return make("figure", {}, make("figcaption", {}, title),
     draw("svg", {viewBox: `0 0 ${width} ${HEIGHT}`, role: "img", "aria-label": label},
-      ...Array.from(marks, (value) => draw("line", {class: "axis", x1: LEFT, x2: width - RIGHT, y1: y(value), y2: y(value)})),
-      ...Array.from(marks, (value) => draw("text", {x: LEFT - 8, y: y(value) + 4, "text-anchor": "end"}, count(value))),
-      draw("polyline", {class: "curve", points: counts.map((value, at) => `${x(at)},${y(value)}`).join(" ")}), ...points,
-      ...timeMarks(publications, x)));
+      ...marks.map(([, height]) => draw("line", {class: "axis", x1: LEFT, x2: width - RIGHT, y1: height, y2: height})),
+      ...marks.map(([value, height]) => draw("text", {x: LEFT - 8, y: height + 4, "text-anchor": "end"}, count(value))),
+      draw("polyline", {class: "curve", points: counts.map((value, at) => `${x(at)},${y(value)}`).join(" ")}),
+      ...points, ...timeMarks(publications, x)));
 }
 
 /** The first and the last publication below a chart. */
@@ -1055,7 +1074,14 @@ function countTable(publications) {
 
 // ---- views
 
-const VIEWS = {"": showHome, lei: showRecord, search: showSearch, group: showGroup, changes: showChanges, counts: showCounts};
+const VIEWS = {
+  "": showHome,
+  lei: showRecord,
+  search: showSearch,
+  group: showGroup,
+  changes: showChanges,
+  counts: showCounts,
+};
 const TITLE = "Register of legal entities";
 const LONG_TITLE = 120;
 let turns = 0;

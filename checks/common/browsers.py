@@ -14,11 +14,12 @@ import time
 
 WAIT = 60
 STARTED = re.compile(r"started successfully on port (\d+)")
-KEYS = {"Tab": "\ue004", "Enter": "\ue007", "End": "\ue010", "Home": "\ue011", "ArrowLeft": "\ue012", "ArrowUp": "\ue013",
-        "ArrowRight": "\ue014", "ArrowDown": "\ue015"}
+KEYS = {"Tab": "\ue004", "Enter": "\ue007", "End": "\ue010", "Home": "\ue011", "ArrowLeft": "\ue012",
+        "ArrowUp": "\ue013", "ArrowRight": "\ue014", "ArrowDown": "\ue015"}
 # The browser does nothing by itself, and knows no address but that of this machine.
 WORDS = ["--headless=new", "--no-first-run", "--disable-background-networking", "--disable-component-update",
-         "--disable-default-apps", "--disable-sync", "--disable-gpu", "--disable-dev-shm-usage", "--no-proxy-server", "--hide-scrollbars",
+         "--disable-default-apps", "--disable-sync", "--disable-gpu", "--disable-dev-shm-usage", "--no-proxy-server",
+         "--hide-scrollbars",
          "--force-color-profile=srgb", "--lang=en", "--host-resolver-rules=MAP * ~NOTFOUND , EXCLUDE 127.0.0.1"]
 
 
@@ -29,7 +30,7 @@ class Browser:
         if shutil.which("chromedriver") is None:
             raise RuntimeError("chromedriver isn't there: it comes by Debian's package chromium-driver")
         folder.mkdir()
-        more = {"HOME": str(folder), "TMPDIR": str(folder), "XDG_CACHE_HOME": str(folder), "XDG_CONFIG_HOME": str(folder)}
+        more = dict.fromkeys(["HOME", "TMPDIR", "XDG_CACHE_HOME", "XDG_CONFIG_HOME"], str(folder))
         self.driver = subprocess.Popen(["chromedriver", "--port=0"], stdin=subprocess.DEVNULL, stdout=subprocess.PIPE,
                                        stderr=subprocess.DEVNULL, text=True, env={**os.environ, **more},
                                        start_new_session=True)
@@ -71,7 +72,8 @@ class Browser:
     def call(self, method, path, body=None):
         """The value that the driver answers. What it refuses is an error."""
         with contextlib.closing(http.client.HTTPConnection("127.0.0.1", self.port, timeout=2 * WAIT)) as client:
-            client.request(method, path, None if body is None else json.dumps(body), {"Content-Type": "application/json"})
+            text = None if body is None else json.dumps(body)
+            client.request(method, path, text, {"Content-Type": "application/json"})
             value = json.loads(client.getresponse().read())["value"]
         if isinstance(value, dict) and "error" in value:
             raise RuntimeError(f"{path}: {value['error']}: {value['message'][:500]}")
@@ -107,13 +109,13 @@ class Browser:
         self.ask("POST", f"{place}/value", {"text": text})
 
     def click(self, selector, text=""):
-        """Clicks on the first element of a selector, or on one with a text: the first that has no other, or that has it."""
+        """Clicks on the first element of a selector, or on one with a text: the first that has no other, or has it."""
         self.ask("POST", f"/element/{self.element(selector, text)}/click", {})
 
     def element(self, selector, text=""):
-        found = self.run("const found = [...document.querySelectorAll(arguments[0])]; return found.find(each => "
-                         "each.textContent === arguments[1]) ?? found.find(each => each.textContent.includes(arguments[1]))",
-                         selector, text)
+        found = self.run("const found = [...document.querySelectorAll(arguments[0])]; "
+                         "return found.find(each => each.textContent === arguments[1]) "
+                         "?? found.find(each => each.textContent.includes(arguments[1]))", selector, text)
         if found is None:
             raise RuntimeError(f"there is no {selector} with {text!r}")
         return next(iter(found.values()))
@@ -138,11 +140,15 @@ class Browser:
         return self.ask("POST", "/goog/cdp/execute", {"cmd": command, "params": values})
 
     def picture(self):
-        """The page as a picture in PNG, as far as its height goes."""
-        return base64.b64decode(self.debug("Page.captureScreenshot", format="png")["data"])
+        """What is seen of the page as a picture in PNG, down to its end."""
+        width, height = self.run("return [innerWidth, "
+                                 "Math.min(innerHeight, document.body.getBoundingClientRect().bottom)]")
+        clip = {"x": 0, "y": 0, "width": width, "height": height, "scale": 1}
+        return base64.b64decode(self.debug("Page.captureScreenshot", format="png", clip=clip)["data"])
 
     def log(self, kind):
-        """What was logged since the last call: by `browser` the messages of the console, by `performance` the network."""
+        """What was logged since the last call: messages of the console for `browser`, and events of the network for
+        `performance`."""
         return self.ask("POST", "/se/log", {"type": kind})
 
     def addresses(self):

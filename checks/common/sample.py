@@ -11,7 +11,7 @@ from checks.common.inputs import EXCEPTION_NAMES, RECORD_NAMES, RELATIONSHIP_NAM
 PUBLICATIONS = 8
 DIRECT, ULTIMATE = "IS_DIRECTLY_CONSOLIDATED_BY", "IS_ULTIMATELY_CONSOLIDATED_BY"
 MARKUP = "<b>Bold</b> & <img src=x onerror=alert(1)> Trading Ltd"
-LONG = " ".join(["Internationale", "Gesellschaft", "für", "außerordentlich", "ausführliche", "Firmennamen"] * 8)[:495] + " GmbH"
+LONG = ("Internationale Gesellschaft für außerordentlich ausführliche Firmennamen " * 8)[:495] + " GmbH"
 
 # A word for each entity, its name, the language of the name, and its city and country.
 ENTITIES = """
@@ -45,7 +45,7 @@ saddle|Saddler & Daughters Ltd|en|Walsall|GB
 oldmill|Old Mill Paper Company|en|Dayton|US
 subfund|Alder Bridge Infrastructure Fund - Wind|en|Luxembourg|LU
 harbour|Nordhavn Sadamateenused OÜ|et|Tallinn|EE
-markup|<b>Bold</b> & <img src=x onerror=alert(1)> Trading Ltd|en|Reading|GB
+markup|MARKUP|en|Reading|GB
 long|LONG|de|Köln|DE
 kapiti|Kāpiti Wind Farms Limited|en|Paraparaumu|NZ
 litoral|Ação Litoral Comércio Ltda.|pt|Santos|BR
@@ -55,7 +55,7 @@ tamarack|Tamarack Timber Cooperative|en|Thunder Bay|CA
 viento|Viento Sur Energía S.A.|es|Cádiz|ES
 fjord|Fjordlaks Oppdrett AS|nb|Bodø|NO
 dolomiti|Latteria Dolomiti Società Cooperativa|it|Belluno|IT
-""".strip().replace("|LONG|", f"|{LONG}|")
+""".strip().replace("|LONG|", f"|{LONG}|").replace("|MARKUP|", f"|{MARKUP}|")
 CATEGORIES = {"branch": "BRANCH", "fund": "FUND", "subfund": "FUND", "saddle": "SOLE_PROPRIETOR"}
 # How many of the entities are there in each of the first publications.
 GROWTH = [18, 20, 23, 26, 29, 34, 38]
@@ -133,9 +133,10 @@ def relation(start, kind, end, status="ACTIVE", registration="PUBLISHED"):
     })
 
 
-def reason(word, reason, **others):
-    return in_order(EXCEPTION_NAMES, {"LEI": CODES[word], "ExceptionCategory": "ULTIMATE_ACCOUNTING_CONSOLIDATION_PARENT",
-                                      "ExceptionReason": reason, **others})
+def reason(word, why, **others):
+    category = "ULTIMATE_ACCOUNTING_CONSOLIDATION_PARENT"
+    fields = {"LEI": CODES[word], "ExceptionCategory": category, "ExceptionReason": why, **others}
+    return in_order(EXCEPTION_NAMES, fields)
 
 
 def top_of(word):
@@ -171,11 +172,12 @@ def last_uploads():
         "records": [
             *(entity(word) for word, *_ in ROWS[GROWTH[-1]:]),
             entity("kettle", **{"SuccessorLEI": CODES["crane"], **ended, **merger}),
-            entity("double", **{"SuccessorLEI": CODES["beech"], "RegistrationStatus": "DUPLICATE", "EntityStatus": "NULL",
-                                **updated}),
+            entity("double", **{"SuccessorLEI": CODES["beech"], "EntityStatus": "NULL",
+                                "RegistrationStatus": "DUPLICATE", **updated}),
             entity("meridian", **{"RegistrationStatus": "LAPSED", "NextRenewalDate": moment(-20), **updated}),
             entity("tamarack", **transferred),
-            entity("energi", **{"HeadquartersAddress.City": "Helsingborg", "LegalAddress.City": "Helsingborg", **updated}),
+            entity("energi", **{"LegalAddress.City": "Helsingborg", "HeadquartersAddress.City": "Helsingborg",
+                                **updated}),
         ],
         "relationships": [
             relation("subfund", "IS_SUBFUND_OF", "fund"),

@@ -16,8 +16,8 @@ from checks.common.inputs import TABLES, compact
 from checks.common.programs import ROOT
 
 WAIT = 60
-POLICY = ("default-src 'none'; script-src 'self'; style-src 'self'; connect-src 'self'; img-src 'self'; base-uri 'none'; "
-          "form-action 'none'; frame-ancestors 'none'")
+POLICY = ("default-src 'none'; script-src 'self'; style-src 'self'; connect-src 'self'; img-src 'self'; "
+          "base-uri 'none'; form-action 'none'; frame-ancestors 'none'")
 SETTINGS = """daemon off;
 master_process off;
 pid {folder}/pid;
@@ -63,8 +63,8 @@ class Site:
         self.port = free_port()
         self.origin = f"http://127.0.0.1:{self.port}"
         settings = folder / "nginx.conf"
-        settings.write_text(SETTINGS.format(folder=folder, page=page, published=published, upstream=upstream, port=self.port,
-                                            policy=POLICY))
+        settings.write_text(SETTINGS.format(folder=folder, page=page, published=published, upstream=upstream,
+                                            port=self.port, policy=POLICY))
         self.process = subprocess.Popen([program, "-p", folder, "-e", folder / "error.log", "-c", settings],
                                         stdin=subprocess.DEVNULL, stdout=subprocess.DEVNULL, stderr=subprocess.DEVNULL)
         try:
@@ -99,15 +99,15 @@ class Site:
 
 
 class Published:
-    """A folder of published files, in the layout of leireg-files, that is made of what a server answers. The publications
-    are dated as if there were one each night, and the last of them, whose number is known beforehand, were of a day."""
+    """A folder of published files, in the layout of leireg-files, that is made of what a server answers. They are dated
+    as if there were a publication each night, and the last of them, whose number is known beforehand, were of a day."""
 
     def __init__(self, folder, last, day):
         self.folder, self.last, self.day, self.publications = folder, last, day, []
         folder.mkdir()
 
     def add(self, ask, number, bases):
-        """Adds the latest publication of a register, whose number is this one, and its deltas from some earlier ones."""
+        """Adds the latest publication of a register, which has this number, and its deltas from some earlier ones."""
         moment = f"{self.day.fromordinal(self.day.toordinal() - self.last + number)}T00:00:00Z"
         files = {f"{table}/{number}.json": ask(f"/v1/copies/{table}/json") for table in TABLES}
         files |= {f"{table}/{base}-{number}.json": ask(f"/v1/deltas/{base}/{table}/json")
