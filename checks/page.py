@@ -1,10 +1,11 @@
 """A person can look things up on the page: in a browser, with a mouse, with the keyboard alone, and on a phone.
 
-The check does fourteen things that a person would do, over a register of entities as they are met in a real one. nginx
+The check does fifteen things that a person would do, over a register of entities as they are met in a real one. nginx
 serves it with the page and its index from one origin, under a strict policy. What has to be shown is worked out from
-what was uploaded, and from docs/FORMATS.md. No error reaches the console, and no request leaves the origin. Each control
-has a name, and each is reached with the keyboard. Searches of the page find what `leireg search` finds. A register of
-100,000 records opens within a second. Debian's packages nginx-light, chromium and chromium-driver have to be there."""
+what was uploaded, and from docs/FORMATS.md. No error reaches the console, and no request leaves the origin. Each
+control has a name, and each is reached with the keyboard. Searches of the page find what `leireg search` finds. A
+register of 100,000 records opens within a second. Debian's packages nginx-light, chromium and chromium-driver have to
+be there."""
 from __future__ import annotations
 
 import datetime
@@ -137,6 +138,27 @@ def make_index(run, published):
     run.report.equal("the index is made", (done.returncode, done.stdout, done.stderr), (0, "", ""))
 
 
+def check_index_runs(run, published):
+    """The script of the index does its work once, whatever an earlier run left, and keeps two indexes."""
+    index = published.folder / "index"
+    run.report.equal("the latest indexes are kept", sorted(each.name for each in index.iterdir()), [".lock", "7", "8"])
+    before = times_of(index / "8")
+    make_index(run, published)
+    run.report.equal("a second run writes nothing", times_of(index / "8"), before)
+    files = {path: (index / "8" / path).read_bytes() for path in before}
+    (index / "8").rename(index / ".new")
+    (index / ".new" / "left.json").write_text("what a killed run left")
+    make_index(run, published)
+    changed = [path for path in {*files, *times_of(index / "8")}
+               if path not in files or (index / "8" / path).read_bytes() != files[path]]
+    run.report.equal("what a killed run left is made anew", changed, [])
+
+
+def times_of(folder):
+    """When each file of a folder was written, by its path."""
+    return {str(each.relative_to(folder)): each.stat().st_mtime_ns for each in folder.rglob("*.json")}
+
+
 def final_rows():
     """The rows of the sample register in the end, by table and key."""
     rows = {"records": {}, "relationships": {}, "exceptions": {}}
@@ -186,7 +208,7 @@ def find_by_folded_name(desk):
         desk.report.equal(f"{text} finds a name", desk.texts(".name a"), [NAMES[word]])
     desk.picture("scripts")
     desk.find("ahoi nordhavn", "search/ahoi%20nordhavn")
-    desk.has("a search without a name says so", "No names found", "No legal name in the latest publication has each of")
+    desk.has("a search without a name says so", "No names found", "No legal name has each of these words, whole.")
     desk.find("?!", "search/%3F!")
     desk.has("and so does one without a word", "This text has no word to search for.")
 
@@ -306,6 +328,11 @@ def see_changes(desk):
     desk.has("another publication can be chosen", "What changed from publication 6 to 8", f"{NAMES['viento']} Added")
     desk.go("changes/2/8", desk.browser.run, "location.hash = '#/changes/2/8'")
     desk.has("what wasn't published is said", "No changes from publication 2 to 8 were published.")
+    desk.browser.run("const records = Array(600).fill({action: 'PUT', record: {LEI: 'X', ExceptionCategory: 'Y'}}); "
+                     "const shown = changeSection({table: 'repex', path: '', size: 9, added: {names: {}, rows: null}, "
+                     "delta: {recordCount: 600, records}}); document.getElementById('view').replaceChildren(shown)")
+    desk.has("of many changes the first are shown", "The first 500 of 600 changes are shown.", "Added or changed")
+    desk.report.equal("which are 500", len(desk.texts(".list > li")), 500)
 
 
 def follow_successor(desk):
@@ -390,6 +417,16 @@ def read_all_fields(desk):
         desk.report.equal(f"{row['Entity.LegalName'][:40]} has all its fields", sorted(shown), sorted(row))
         desk.report.equal("with their texts", {name: shown.get(name) for name in plain}, plain)
     desk.picture("record")
+
+
+def come_before_index(desk, published):
+    """Comes when a publication is there and its index isn't yet."""
+    latest, aside = published.folder / "index" / "8", published.folder / "index" / "aside"
+    latest.rename(aside)
+    desk.browser.debug("Network.setCacheDisabled", cacheDisabled=True)
+    desk.open("search/nordhavn")
+    desk.has("a search is that of the publication before", "9 names found, in publication 7.", selector="#status")
+    aside.rename(latest)
 
 
 def meet_outage(desk, server):
@@ -546,8 +583,8 @@ def found_by_program(line):
 
 
 def large_uploads(chance):
-    """The bodies of the uploads of a large register, where entities have ten children each. Each name ends in the number
-    of its record."""
+    """The bodies of the uploads of a large register, where entities have ten children each. Each name ends in the
+    number of its record."""
     words = "Alder Birch Cedar Delta Ember Fjord Grove Haven Inlet Juniper Kestrel Linden".split()
     kinds = "Holding Capital Foods Shipping Energy Limited Trust Partners".split()
     for first in range(1, LARGE + 1, BATCH):
@@ -607,13 +644,15 @@ TASKS = [find_by_name, find_by_folded_name, learn_what_is_wrong, ask_for_unknown
          see_changes, follow_successor, see_counts, share_link, use_phone, read_markup, read_all_fields]
 
 
-def do_tasks(desk, server):
+def do_tasks(desk, server, published):
     """Does one task after the other. The server is ended by the last one."""
     for task in TASKS:
         task(desk)
         desk.end_task(task.__doc__.partition(".")[0], "/v1/records/" if task is ask_for_unknown else None)
     check_access(desk)
     check_policy(desk)
+    come_before_index(desk, published)
+    desk.end_task("a late index", "/publish/index/8/")
     meet_outage(desk, server)
     desk.end_task("an outage", "/v1/records/")
 
@@ -621,10 +660,11 @@ def do_tasks(desk, server):
 def check(run):
     with Server(run.program, workers=4) as server:
         published = publish_sample(run, server)
+        check_index_runs(run, published)
         with Site(run.folder / "site", PAGE, published.folder, server.port) as site:
             with Browser(run.folder / "browser") as browser:
                 browser.resize(*WIDE)
-                do_tasks(Desk(run, browser, site), server)
+                do_tasks(Desk(run, browser, site), server, published)
     with Browser(run.folder / "second-browser") as browser:
         browser.resize(*WIDE)
         check_searches(run, browser)

@@ -253,11 +253,12 @@ function stateOf(status) {
 
 // ---- what is read
 
-/** Why something can't be shown: a status of HTTP, or 0 if there was no response, and what a person is told. */
+/** Why something can't be shown: what a person is told, the status of HTTP, or 0 if no response came, and its text. */
 class Trouble extends Error {
-  constructor(status, told) {
+  constructor(status, told, text = "") {
     super(told);
     this.status = status;
+    this.text = text;
   }
 }
 
@@ -276,7 +277,7 @@ async function read(path, options = {}) {
   }
   if (!response.ok) {
     throw new Trouble(response.status, TOLD[response.status] ?? `The register doesn't answer at the moment (status ${
-      response.status}). Try again later.`);
+      response.status}). Try again later.`, (await response.text().catch(() => "")).trim());
   }
   try {
     return await response.json();
@@ -425,7 +426,8 @@ async function showHome() {
   const {publications} = await readManifest();
   const latest = publications.at(-1);
   const introduction = make("p", {}, "A Legal Entity Identifier (LEI) identifies a company, fund or branch in "
-    + "contracts, trades and reports. This register says who holds an LEI, who the parents are, and what became of it.");
+    + "contracts, trades and reports. This register says who holds an LEI, who its parents are, and what became of "
+    + "it.");
   if (!latest) {
     return {title: "Look up a legal entity", nodes: [introduction, note("Nothing has been published yet.")]};
   }
@@ -447,7 +449,7 @@ async function showHome() {
 
 // ---- records
 
-async function showRecord(code) {
+async function showRecord(code = "") {
   const fault = faultOf(code);
   if (fault) {
     return explainFault(code, fault);
@@ -480,7 +482,7 @@ async function remarksOn(record, published) {
   const successors = (record["Entity.SuccessorEntity.1.SuccessorLEI"] ?? "").split(" ").filter((code) => code !== "");
   const remarks = {
     "LAPSED": "The registration has lapsed: it wasn't renewed in time, so what it says may be out of date.",
-    "RETIRED": "The entity has ended its operation, and its LEI is retired.",
+    "RETIRED": "The entity is inactive, and its LEI is retired.",
     "DUPLICATE": "This LEI is a duplicate of another one of the same entity.",
     "ANNULLED": "This LEI is annulled.",
     "PENDING_TRANSFER": "The registration is to be transferred to another issuer.",
@@ -560,7 +562,7 @@ function disagreementOf(entity) {
 
 /** What is said if there is no record to show. The published files may know the name, even if the server is down. */
 async function showNoRecord(code, trouble) {
-  if (trouble.status === 404) {
+  if (trouble.text === "LEI_UNKNOWN") {
     return {
       title: "No record for this LEI",
       nodes: [
@@ -647,7 +649,7 @@ async function showSearch(text = "", pageText = "1") {
 }
 
 function noNames(text) {
-  return note("No legal name in the latest publication has each of these words, whole.",
+  return note("No legal name has each of these words, whole.",
     ...(isMeantAsCode(text) ? [make("p", {}, link(`lei/${text}`, "Look it up as an LEI"))] : []));
 }
 
@@ -666,7 +668,7 @@ function pageLinks(text, page, pages) {
 
 // ---- a group
 
-async function showGroup(code) {
+async function showGroup(code = "") {
   const fault = faultOf(code);
   if (fault) {
     return explainFault(code, fault);
@@ -1028,7 +1030,7 @@ async function showCounts() {
   };
 }
 
-const WIDEST = 720, HEIGHT = 150, LEFT = 62, RIGHT = 14, TOP = 12, BOTTOM = 26;
+const WIDEST = 720, HEIGHT = 132, LEFT = 62, RIGHT = 14, TOP = 12, BOTTOM = 26;
 
 /** A line over the publications in order, between the least and the greatest count. */
 function chart(title, publications, table) {
@@ -1053,7 +1055,7 @@ function chart(title, publications, table) {
 /** The first and the last publication below a chart. */
 function timeMarks(publications, x) {
   const mark = (at, anchor) => draw("text", {x: x(at), y: HEIGHT - 6, "text-anchor": anchor},
-    `${publications[at].publication}, ${dateOf(publications[at].contentDate)}`);
+    `${publications[at].publication} (${dateOf(publications[at].contentDate)})`);
   return publications.length > 1 ? [mark(0, "start"), mark(publications.length - 1, "end")] : [mark(0, "middle")];
 }
 
@@ -1113,10 +1115,11 @@ async function viewOf([name, ...rest]) {
   try {
     return await VIEWS[name](...rest);
   } catch (trouble) {
-    if (!(trouble instanceof Trouble)) {
-      throw trouble;
+    if (trouble instanceof Trouble) {
+      return showTrouble(trouble);
     }
-    return showTrouble(trouble);
+    console.error(trouble);
+    return showTrouble(new Trouble(0, "What came from the register isn't in the form that this page reads."));
   }
 }
 
