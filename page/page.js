@@ -878,8 +878,8 @@ async function showChanges(baseText, numberText) {
   const base = baseText ? Number(baseText) : latest.deltasFrom.at(-1);
   const choice = chooser(choices, base, number);
   if (!later?.deltasFrom.includes(base)) {
-    return {title: "What changed", nodes: [choice, note(`No changes from publication ${baseText} to ${numberText} were `
-      + "published. Choose two others.")]};
+    return {title: "What changed", nodes: [choice, note(`No changes from publication ${baseText ?? base} to ${
+      numberText ?? number} were published. Choose two others.`)]};
   }
   const tables = await readChanges(base, number);
   return {
