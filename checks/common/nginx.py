@@ -10,6 +10,7 @@ import time
 
 from checks.common.servers import WAIT
 
+PROGRAM = shutil.which("nginx", path=f"{os.environ['PATH']}:/usr/sbin")
 SETTINGS = """daemon off;
 master_process off;
 pid {folder}/pid;
@@ -49,14 +50,13 @@ class Nginx:
     end."""
 
     def __init__(self, folder, address, site):
-        program = shutil.which("nginx", path=f"{os.environ['PATH']}:/usr/sbin")
-        if program is None:
+        if PROGRAM is None:
             raise RuntimeError("nginx isn't there: it comes by Debian's package nginx-light")
         self.folder, self.address = folder, address
         folder.mkdir()
         (folder / "site.conf").write_text(site)
         (folder / "nginx.conf").write_text(SETTINGS.format(folder=folder))
-        command = [program, "-p", folder, "-e", folder / "error.log", "-c", folder / "nginx.conf"]
+        command = [PROGRAM, "-p", folder, "-e", folder / "error.log", "-c", folder / "nginx.conf"]
         self.process = subprocess.Popen(command, stdin=subprocess.DEVNULL, stdout=subprocess.DEVNULL,
                                         stderr=subprocess.DEVNULL)
         try:

@@ -1,5 +1,4 @@
-"""The published files of a register, and an nginx of the check's own that serves them with the page: Debian's package
-nginx-light."""
+"""The published files of a register, and an nginx that serves them with the page."""
 from __future__ import annotations
 
 import hashlib
@@ -7,92 +6,36 @@ import json
 import os
 import pathlib
 import re
-import shutil
-import socket
 import subprocess
-import time
 
 from checks.common.inputs import TABLES, compact
+from checks.common.nginx import Nginx, free_port
 from checks.common.programs import ROOT
 
-WAIT = 60
 POLICY = ("default-src 'none'; script-src 'self'; style-src 'self'; connect-src 'self'; img-src 'self'; "
           "base-uri 'none'; form-action 'none'; frame-ancestors 'none'")
-SETTINGS = """daemon off;
-master_process off;
-pid {folder}/pid;
-error_log {folder}/error.log;
-events {{ worker_connections 256; }}
-http {{
-    access_log {folder}/access.log;
-    client_body_temp_path {folder}/body;
-    proxy_temp_path {folder}/proxy;
-    fastcgi_temp_path {folder}/fastcgi;
-    uwsgi_temp_path {folder}/uwsgi;
-    scgi_temp_path {folder}/scgi;
-    types {{ text/html html; text/css css; text/javascript js; image/svg+xml svg; application/json json; }}
-    charset utf-8;
-    charset_types text/html text/css text/javascript application/json;
-    add_header Content-Security-Policy "{policy}";
-    add_header X-Content-Type-Options nosniff;
-    server {{
-        listen 127.0.0.1:{port};
-        location / {{ root {page}; index index.html; }}
-        location /publish/ {{ alias {published}/; }}
-        location /v1/ {{ proxy_pass http://127.0.0.1:{upstream}; }}
-    }}
+SITE = """types {{ text/html html; text/css css; text/javascript js; image/svg+xml svg; application/json json; }}
+charset utf-8;
+charset_types text/html text/css text/javascript application/json;
+add_header Content-Security-Policy "{policy}";
+add_header X-Content-Type-Options nosniff;
+server {{
+    listen 127.0.0.1:{port};
+    location / {{ root {page}; index index.html; }}
+    location /publish/ {{ alias {published}/; }}
+    location /v1/ {{ proxy_pass http://127.0.0.1:{upstream}; }}
 }}
 """
 
 
-def free_port():
-    """A port that was free a moment ago."""
-    with socket.create_server(("127.0.0.1", 0)) as taken:
-        return taken.getsockname()[1]
-
-
-class Site:
-    """An nginx that serves the page, the published files and a server from one origin. As a context it is ended at the
-    end."""
+class Site(Nginx):
+    """An nginx that serves the page, the published files and a server from one origin."""
 
     def __init__(self, folder, page, published, upstream):
-        program = shutil.which("nginx", path=f"{os.environ['PATH']}:/usr/sbin")
-        if program is None:
-            raise RuntimeError("nginx isn't there: it comes by Debian's package nginx-light")
-        folder.mkdir()
         self.port = free_port()
         self.origin = f"http://127.0.0.1:{self.port}"
-        settings = folder / "nginx.conf"
-        settings.write_text(SETTINGS.format(folder=folder, page=page, published=published, upstream=upstream,
-                                            port=self.port, policy=POLICY))
-        self.process = subprocess.Popen([program, "-p", folder, "-e", folder / "error.log", "-c", settings],
-                                        stdin=subprocess.DEVNULL, stdout=subprocess.DEVNULL, stderr=subprocess.DEVNULL)
-        try:
-            self.wait(folder)
-        except BaseException:
-            self.end()
-            raise
-
-    def wait(self, folder):
-        """Waits until nginx takes connections."""
-        end = time.monotonic() + WAIT
-        while self.process.poll() is None and time.monotonic() < end:
-            try:
-                return socket.create_connection(("127.0.0.1", self.port), 1).close()
-            except OSError:
-                time.sleep(0.02)
-        raise RuntimeError(f"nginx doesn't serve: {(folder / 'error.log').read_text()}")
-
-    def __enter__(self):
-        return self
-
-    def __exit__(self, *_):
-        self.end()
-
-    def end(self):
-        if self.process.poll() is None:
-            self.process.terminate()
-        self.process.wait(WAIT)
+        super().__init__(folder, f"127.0.0.1:{self.port}", SITE.format(
+            page=page, published=published, upstream=upstream, port=self.port, policy=POLICY))
 
 
 # ---- published files
