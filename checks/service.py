@@ -309,6 +309,126 @@ def check_unit_of_backup(run, store):
     run.report.equal("a unit that was stopped stays so", told(store), (0, [asked]))
 
 
+# ---- the container
+
+
+# What runs in the container, beside systemd: each line of /trial.out is a name and what was seen.
+TRIAL = """#!/bin/sh
+say() { echo "$1: $2" >>/trial.out; }
+show() { systemctl show -p "$1" --value leireg.service; }
+ask() { curl -s -m 60 "$@"; }
+status() { ask http://127.0.0.1:8080/v1/status; }
+# Waits up to a minute until a command succeeds.
+await() { for _ in $(seq 300); do if "$@"; then return; fi; sleep 0.2; done; }
+has_started() { [ "$(show NRestarts)" -ge 1 ]; }
+has_ended() { case $(show SubState) in failed | auto-restart) ;; *) false ;; esac; }
+seen() { echo "$(show ActiveState) $(show ExecMainStatus) $(show NRestarts)"; }
+
+systemctl start leireg.service
+await status
+say user "$(stat -c %U "/proc/$(show MainPID)")"
+say capabilities "$(sed -n 's/^CapEff:.//p' "/proc/$(show MainPID)/status")"
+say store "$(stat -c '%U %a' /var/lib/leireg/register.db)"
+say accredited "$(ask -X PUT http://127.0.0.1:8080/v1/issuers/506700GE1G29325QX363)"
+systemctl start leireg-publish.service; say published $?
+systemctl start leireg-publish.service; say 'published again' $?
+say files "$(ls -d /var/lib/leireg/publish) $(stat -c '%U %a' /var/lib/leireg/publish)"
+say status "$(status)"
+before=$(show MainPID)
+systemctl start leireg-backup.service; say 'backed up' $?
+[ "$before" = "$(show MainPID)" ] || say 'after the backup' 'another process serves'
+await status
+say 'status after the backup' "$(status)"
+say backup "$(sqlite3 "$(ls /var/backups/leireg/register-*.db)" 'SELECT count(*) FROM entry')"
+kill -9 "$(show MainPID)"
+await has_started
+await status
+say 'status after kill -9' "$(status)"
+systemctl stop leireg.service
+say stopped "$(show ActiveState) $(show Result)"
+
+leireg serve --port 8080 --workers 1 2>/dev/null &
+await status
+systemctl reset-failed leireg.service
+systemctl start leireg.service
+await has_ended
+say 'after 9' "$(show SubState) $(show ExecMainStatus)"
+kill $!
+await has_started
+await status
+systemctl stop leireg.service
+
+echo LEIREG_PORT=none >>/etc/default/leireg
+systemctl start leireg.service
+await has_ended
+say 'after 1' "$(seen)"
+sed -i '$d' /etc/default/leireg
+chown root /var/lib/leireg/register.db*
+systemctl start leireg.service
+await has_ended
+say 'after 5' "$(seen)"
+chown leireg /var/lib/leireg/register.db*
+sqlite3 /var/lib/leireg/register.db "UPDATE entry SET answer = x'7b7d' WHERE seq = 1"
+systemctl start leireg.service
+await has_ended
+say 'after 7' "$(seen)"
+systemctl start leireg-publish.timer leireg-backup.timer
+say timers "$(TZ=UTC systemctl show -p NextElapseUSecRealtime --value leireg-publish.timer | cut -d ' ' -f 3-)"
+systemctl poweroff
+"""
+UNIT = "[Unit]\nWants=dbus.service\nAfter=basic.target dbus.service\n[Service]\nExecStart=/trial\n"
+EMPTY_PUBLISHED = ('{"entries":2,"exceptions":0,"issuers":1,"keptBytes":0,"publications":1,"records":0,'
+                   '"relationships":0}')
+WANTED = {
+    "user": "leireg",
+    "capabilities": "0000000000000000",
+    "store": "leireg 600",
+    "accredited": answer_to_accredit(1).decode(),
+    "published": "0",
+    "published again": "0",
+    "files": "/var/lib/leireg/publish leireg 755",
+    "status": EMPTY_PUBLISHED,
+    "backed up": "0",
+    "after the backup": "another process serves",
+    "status after the backup": EMPTY_PUBLISHED,
+    "backup": "2",
+    "status after kill -9": EMPTY_PUBLISHED,
+    "stopped": "inactive success",
+    "after 9": "auto-restart 9",
+    "after 1": "failed 1 0",
+    "after 5": "failed 5 0",
+    "after 7": "failed 7 0",
+    "timers": "00:00:00 UTC",
+}
+
+
+def check_container(run):
+    """Starts systemd in a container where the package is installed, and the trial as a unit of it."""
+    _, package, _ = build(run, "built")
+    root = run.folder / "container"
+    make_root(root, "libc6", "libgcc-s1", "passwd", "systemd", "dbus", "curl", "sqlite3", "python3")
+    if not run.report.equal("the package is installed in a container", dpkg(root, "-i", package), (0, "")):
+        return
+    (root / "trial").write_text(TRIAL)
+    (root / "trial").chmod(0o755)
+    (root / "etc/systemd/system").mkdir(parents=True, exist_ok=True)
+    (root / "etc/systemd/system/trial.service").write_text(UNIT)
+    command = ["systemd-nspawn", "-D", root, "--register=no", "--keep-unit", "--private-network", "--console=pipe", "-b",
+               "systemd.unit=trial.service"]
+    container = subprocess.Popen(command, stdin=subprocess.DEVNULL, stdout=subprocess.PIPE, stderr=subprocess.STDOUT)
+    try:
+        told = container.communicate(timeout=900)[0].decode(errors="replace")
+    finally:
+        if container.poll() is None:
+            container.kill()
+            container.wait()
+    out = root / "trial.out"
+    seen = dict(line.split(": ", 1) for line in out.read_text().splitlines()) if out.exists() else {"no trial": told}
+    for name, wanted in WANTED.items():
+        came = seen.get(name, f"nothing of {seen}")
+        run.report.equal(f"under systemd: {name}", came[-12:] if name == "timers" else came, wanted)
+
+
 def check(run):
     needed = NEEDED if run.is_quick else {**NEEDED, **NEEDED_FOR_A_CONTAINER}
     if not need(run, needed):
