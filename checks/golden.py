@@ -1,9 +1,9 @@
-"""A golden copy with the LEI-CDF's column names is taken as examples/README.md says: the table there has each row's fate.
+"""A golden copy with the LEI-CDF's column names is taken as examples/README.md says, which has the fate of each row.
 
-The sample is sent to a register. The summary is compared with counts of that table, and each field of each row that is then
-held with the sample's columns. A run that is cut off goes on, and a repeat changes nothing. A server that only writes down
-what it gets shows the order, the cut into uploads, the same requests on a later day, and that nothing is sent of a broken
-file. Relationships follow their records."""
+The sample is sent to a register. The summary is compared with the table of that page, and each field of each row that
+is then held with the sample's columns. A run that is cut off goes on, and a repeat changes nothing. A server that only
+writes down what it gets shows the order, the cut into uploads, the same requests on a later day, and that nothing is
+sent of a broken file. Relationships follow their records."""
 import collections
 import csv
 import datetime
@@ -11,6 +11,7 @@ import http.server
 import io
 import itertools
 import json
+import os
 import re
 import subprocess
 import sys
@@ -113,8 +114,8 @@ def wanted_counts(day):
 
 def run_script(url, *words, limit=600):
     """A run of the script: its status, and the texts of its two outputs."""
-    done = subprocess.run([sys.executable, SCRIPT, "--url", url, *map(str, words)], capture_output=True, text=True,
-                          timeout=limit)
+    done = subprocess.run([sys.executable, SCRIPT, *map(str, words)], capture_output=True, text=True, timeout=limit,
+                          env={**os.environ, "LEIREG_URL": url})
     return done.returncode, done.stdout, done.stderr
 
 
@@ -187,7 +188,8 @@ class Taker(http.server.BaseHTTPRequestHandler):
 def check_sample(run):
     """Sends the sample, and compares the summary and what is then held."""
     report, shift = run.report, TODAY - MADE_ON
-    report.equal("the table on the page has each row of the sample", list(fates()), list(range(1, len(read_sample()) + 1)))
+    numbers = list(range(1, len(read_sample()) + 1))
+    report.equal("the table on the page has each row of the sample", list(fates()), numbers)
     report.holds("each kind that is left out has two rows",
                  {count for fate, count in collections.Counter(fates().values()).items() if fate[:4] == "left"} == {2})
     words = "--day", TODAY, "--moved-from", MADE_ON, SAMPLE
@@ -201,12 +203,23 @@ def check_sample(run):
         if not run.is_quick:
             report.equal("a repeat has the same summary", run_script(url_of(server), *words), (0, summary, told))
             report.equal("and adds nothing", server.ask("GET", "/v1/status"), before)
+            check_free_numbers(run, server, json.loads(before[1])["entries"])
             check_relationships(run, server)
         answers, rows = held(server)
     report.equal("what is held is published in a wide copy", answers, (201, 200, [RECORD_NAMES]))
     report.equal("each field of each row is as the sample has it", rows, wanted_rows(shift))
     report.note(f"{len(rows)} of the sample's rows are held")
     return summary, before
+
+
+def check_free_numbers(run, server, entries):
+    """Other uploads than those that were taken get numbers that are free, and change no row here."""
+    words = "--url", url_of(server), "--day", TODAY, "--moved-from", MADE_ON, "--first", "10", SAMPLE
+    status, summary, _ = run_script("http://127.0.0.1:1", *words)
+    run.report.equal("the first ten rows are sent again", (status, counts_of(summary)["rows taken"]), (0, 10))
+    added = json.loads(server.ask("GET", "/v1/status")[1])["entries"] - entries
+    issuers = {row[ISSUER] for row in read_sample()[:10]}
+    run.report.equal("in an upload of each issuer under a free number", added, len(issuers))
 
 
 def check_cut_off(run, summary, wanted):
@@ -219,8 +232,9 @@ def check_cut_off(run, summary, wanted):
     run.report.equal("a run without an end has status 1 and no summary", (status, out), (1, ""))
     run.report.holds("and says how to go on", f"The same command with --day {TODAY} goes on" in told, told[-500:])
     with Server(run.program, "--store", store) as server:
-        run.report.equal("the same command goes on to the same summary", run_script(url_of(server), *words)[:2], (0, summary))
-        run.report.equal("and to as many entries and records as without the cut", server.ask("GET", "/v1/status"), wanted)
+        status, out, _ = run_script(url_of(server), *words)
+        run.report.equal("the same command goes on to the same summary", (status, out), (0, summary))
+        run.report.equal("and to as many entries and records", server.ask("GET", "/v1/status"), wanted)
         run.report.equal("and to the same rows", held(server)[1], wanted_rows(TODAY - MADE_ON))
 
 
@@ -257,10 +271,12 @@ def check_relationships(run, server):
     path.write_text(csv_text([list(rows[0]), *(list(row.values()) for row in rows)]), encoding="utf-8")
     status, summary, _ = run_script(url_of(server), "--day", TODAY, "--moved-from", MADE_ON, SAMPLE, path)
     run.report.equal("relationships are sent after the same records", status, 0)
-    run.report.equal("their summary has the counts of their kinds", counts_of(summary.split(f"{path}: 12 rows\n")[1]), {
+    told = summary.partition(f"{path}: 12 rows, and 15 of 18 columns are used\n")[2]
+    run.report.equal("their summary has the counts of their kinds", counts_of(told), {
         "rows taken": 5, "rows rejected": 1, "rows left out": 6, "items ACCEPTED": 8, "items rejected": 1,
         "rows entered as PUBLISHED first": 3, "C38 PARENT_CYCLE": 1, "the record of a node wasn't taken": 1,
-        "Relationship.RelationshipStatus: RETIRED isn't allowed with ACTIVE": 1, "an earlier row has its nodes and its type": 1,
+        "Relationship.RelationshipStatus: RETIRED isn't allowed with ACTIVE": 1,
+        "an earlier row has its nodes and its type": 1,
         f"{STATUS}: the profile lacks DUPLICATE": 1,
         "Relationship.RelationshipType: it doesn't have the profile's shape": 1,
         "Relationship.StartDate: it is empty, and the profile needs it": 1,
@@ -300,7 +316,7 @@ def moved(text, days):
 
 
 def check_days(run):
-    """On a later day the same requests are sent with other dates. As it stands, an old copy has no ISSUED rows any more."""
+    """On a later day the same requests are sent with other dates. A copy that isn't moved has no ISSUED rows then."""
     report = run.report
     status, got, _, uploads = requests_on(MADE_ON)
     days = (LATER - MADE_ON).days
@@ -313,8 +329,8 @@ def check_days(run):
     last = {item["LEI"]: item for _, _, items, _ in later for item in items}
     report.equal("an old copy that isn't moved has no row that stays ISSUED",
                  [lei for lei, item in last.items() if item[STATUS] == "ISSUED"], [])
-    report.equal("and its ISSUED rows, which are 1 to 84 and 129 to 148, are brought in as LAPSED", counts_of(summary).get(
-        "rows with the status ISSUED whose renewal date has passed, brought in as LAPSED"), 104)
+    lapsed = counts_of(summary).get("rows with the status ISSUED whose renewal date has passed, brought in as LAPSED")
+    report.equal("its ISSUED rows, which are 1 to 84 and 129 to 148, are brought in as LAPSED", lapsed, 104)
     check_items(run, uploads)
 
 
@@ -334,15 +350,16 @@ def check_items(run, uploads):
                      {(first["Entity.EntityStatus"], first[RENEWAL], SUCCESSORS in first) for first, _ in firsts},
                      {("ACTIVE", entered, False)})
     number = "Entity.RegistrationAuthority.RegistrationAuthorityEntityID"
-    run.report.equal("those of records that won't be live have no number at an authority",
-                     {after[STATUS] for first, after in firsts if number not in first}, {"RETIRED", "DUPLICATE", "ANNULLED"})
-    run.report.equal("and only those", {after[STATUS] for first, after in firsts if number in first},
-                     {"LAPSED", "PENDING_TRANSFER"})
+    without, with_number = (
+        {after[STATUS] for first, after in firsts if (number in first) == has} for has in (False, True))
+    run.report.equal("those of records that won't be live have no number at an authority", without,
+                     {"RETIRED", "DUPLICATE", "ANNULLED"})
+    run.report.equal("and only those", with_number, {"LAPSED", "PENDING_TRANSFER"})
 
 
 def large_rows(header, sample):
     """20,000 rows of two issuers, of which each fifth needs two items: 14,000 short ones, and then 6,000 long ones."""
-    needless = [name for name in header if re.search("xmllang|Region$|PostalCode|EntityID$|Creation|OtherEntityName", name)]
+    needless = [name for name in header if re.search("xmllang|Region$|PostalCode|EntityID$|Creation", name)]
     for number in range(20_000):
         row = {**sample[84 if number % 5 == 0 else 0], "LEI": code(number), ISSUER: sample[number % 2][ISSUER]}
         others = {"Entity.LegalName": "Made-up " * 60} if number >= 14_000 else dict.fromkeys(needless, "")
@@ -390,18 +407,18 @@ def broken_files(header, rows):
         "a header without the manager": (file([name.replace("ManagingLOU", "LOU") for name in header], rows),
                                          "lacks the column Registration.ManagingLOU"),
         "a header with a column twice": (file(header[:-1] + ["LEI"], rows), "has the column LEI twice"),
-        "semicolons": (whole.replace(b'","', b'";"'), "can't be read"),
+        "semicolons": (whole.replace(b'","', b'";"'), "isn't CSV in UTF-8"),
         "semicolons without quotes": (";".join(header).encode() + b"\n", "lacks the column LEI"),
         "a quote that isn't closed": (whole[:-2] + b"\n", "isn't CSV in UTF-8"),
         "a text after a quote": (whole[:-1] + b"x\n", "isn't CSV in UTF-8"),
         "a row with a field less": (file(header, [*rows, rows[0][:-1]]), f"has {len(header) - 1} fields"),
         "a row with a field more": (file(header, [*rows, rows[0] + [""]]), f"has {len(header) + 1} fields"),
-        "a row in Latin-1": (whole + file(header, [["é"] * len(header)]).decode().encode("latin-1"), "isn't CSV in UTF-8"),
-        "UTF-16": (whole.decode().encode("utf-16"), "can't be read"),
-        "a zip file": (b"PK\x03\x04\x14\x00\xff\xfe\x00\x08\x00", "can't be read"),
+        "a row in Latin-1": (whole + csv_text([["é"] * len(header)]).encode("latin-1"), "isn't CSV in UTF-8"),
+        "UTF-16": (whole.decode().encode("utf-16"), "isn't CSV in UTF-8"),
+        "a zip file": (b"PK\x03\x04\x14\x00\xff\xfe\x00\x08\x00", "isn't CSV in UTF-8"),
         "XML": (b'<?xml version="1.0"?><lei:LEIData/>\n', "lacks the column LEI"),
         "a field of 200,000 characters": (file(header, [["x" * 200_000, *rows[0][1:]]]), "isn't CSV in UTF-8"),
-        "a copy of relationships": (csv_text([link(1, 2).keys(), link(1, 2).values()]).encode(), "lacks the column LEI"),
+        "a copy of relationships": (csv_text([list(link(1, 2))]).encode(), "lacks the column LEI"),
     }
 
 
@@ -419,7 +436,7 @@ def check_broken(run):
             refused(what, [path], 1, part)
         refused("a file that isn't there", [run.folder / "none.csv"], 1, "No such file")
         refused("a folder", [run.folder], 1, "Is a directory")
-        refused("relationships that are no relationships", [SAMPLE, SAMPLE], 1, "lacks the column Relationship.StartNode")
+        refused("records in the place of relationships", [SAMPLE, SAMPLE], 1, "lacks the column Relationship.StartNode")
         refused("a day that isn't one", ["--day", "2026-02-30", SAMPLE], 2, "--day")
         refused("no first rows", ["--first", "0", SAMPLE], 2, "--first")
         refused("no file", [], 2, "COPY")
@@ -439,7 +456,8 @@ def check_other_forms(run):
     plain = io.StringIO()
     csv.writer(plain, lineterminator="\n").writerows([header, *rows])
     forms = {"as the sample has it": whole, "a byte order mark": "\ufeff" + whole, "CR LF": whole.replace("\n", "\r\n"),
-             "empty lines at the end": whole + "\n\n", "no end of the last line": whole[:-1], "few quotes": plain.getvalue()}
+             "empty lines at the end": whole + "\n\n", "no end of the last line": whole[:-1],
+             "few quotes": plain.getvalue()}
     got = {}
     for what, text in forms.items():
         got[what] = sent_for(run, text)
