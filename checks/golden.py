@@ -137,10 +137,12 @@ def held(server):
 
 
 class StandIn(http.server.ThreadingHTTPServer):
-    """A server that takes everything and writes down what it got. As a context it is ended."""
+    """A server that writes down what it got, and accepts all items, perhaps but the last of each upload. As a context it
+    is ended."""
 
-    def __init__(self):
+    def __init__(self, last="ACCEPTED"):
         super().__init__(("127.0.0.1", 0), Taker)
+        self.last = last
         self.port = self.server_address[1]
         self.got = []
         self.thread = threading.Thread(target=self.serve_forever)
@@ -163,7 +165,7 @@ class StandIn(http.server.ThreadingHTTPServer):
 
 
 class Taker(http.server.BaseHTTPRequestHandler):
-    """Answers an accreditation, or an upload all of whose items are accepted."""
+    """Answers an accreditation or an upload."""
 
     def do_PUT(self):
         body = self.rfile.read(int(self.headers["content-length"]))
@@ -171,7 +173,8 @@ class Taker(http.server.BaseHTTPRequestHandler):
         issuer, *rest = self.path.split("/")[3:]
         answer = {"entry": 1, "issuer": issuer}
         if rest:
-            answer.update(number=int(rest[1]), items=["ACCEPTED"] * sum(map(len, json.loads(body).values())))
+            accepted = ["ACCEPTED"] * (sum(map(len, json.loads(body).values())) - 1)
+            answer.update(number=int(rest[1]), items=[*accepted, self.server.last])
         text = compact(answer)
         self.send_response(200)
         self.send_header("content-length", str(len(text)))
@@ -357,6 +360,23 @@ def check_items(run, uploads):
     run.report.equal("and only those", with_number, {"LAPSED", "PENDING_TRANSFER"})
 
 
+def check_half_taken(run):
+    """A record that entered, and whose second item is rejected, is reported as one that stays ISSUED."""
+    row = read_sample()[100]
+    path = run.folder / "half.csv"
+    path.write_text(csv_text([list(row), list(row.values())]), encoding="utf-8")
+    with StandIn("C18 SUCCESSOR_CHAIN_LONG") as server:
+        _, summary, told = run_script(url_of(server), "--day", MADE_ON, path)
+    counts = counts_of(summary)
+    run.report.equal("a row whose second item is rejected is counted as one that stays as it entered", {
+        what: counts.get(what) for what in ("rows taken", "rows rejected", "items ACCEPTED", "items rejected",
+                                            "rows rejected that stay as they were entered first")},
+        {"rows taken": 0, "rows rejected": 1, "items ACCEPTED": 1, "items rejected": 1,
+         "rows rejected that stay as they were entered first": 1})
+    run.report.equal("and has its line", told,
+                     f"line 2: {row['LEI']}: rejected: C18 SUCCESSOR_CHAIN_LONG, and stays as it entered\n")
+
+
 def large_rows(header, sample):
     """20,000 rows of two issuers, of which each fifth needs two items: 14,000 short ones, and then 6,000 long ones."""
     needless = [name for name in header if re.search("xmllang|Region$|PostalCode|EntityID$|Creation", name)]
@@ -498,5 +518,6 @@ def check(run):
     if not run.is_quick:
         check_cut_off(run, summary, status)
         check_days(run)
+        check_half_taken(run)
         check_large(run)
         check_other_forms(run)
