@@ -137,7 +137,7 @@ def held(server):
 
 
 class StandIn(http.server.ThreadingHTTPServer):
-    """A server that writes down what it got, and accepts all items, perhaps but the last of each upload. As a context it
+    """A server that writes down what it got and accepts each item, perhaps but the last of an upload. As a context it
     is ended."""
 
     def __init__(self, last="ACCEPTED"):
