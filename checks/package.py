@@ -1,9 +1,10 @@
 """The package and the archive are made, installed in a clean root, used and removed as docs/OPERATING.md says.
 
-Two builds have the same bytes, and PROVED has the commit, the last line of the gate and the sum of each packed file. A clean
-root has Debian's essential packages and what the package depends on, as they are installed on this machine. In it the first
-session of README.md gets the replies that stand there, and its store outlives the package. The manual page has each command
-and status of docs/FORMATS.md, and the completions of bash and zsh complete some lines."""
+Two builds have the same bytes, and PROVED has the commit, the last line of the gate and the sum of each packed file. A
+clean root has Debian's essential packages and what the package depends on, as they are installed on this machine. In it
+the first session of README.md gets the replies that stand there, and its store outlives the package. The manual page has
+each command and status of docs/FORMATS.md, and the completions of bash and zsh complete some lines."""
+import gzip
 import hashlib
 import os
 import pathlib
@@ -46,8 +47,12 @@ LINES = {
     "leireg digits ": "",
 }
 # Lines that zsh lists choices for, and words among them.
-ZSH_LINES = {"leireg ": ["apply", "mirror", "serve"], "leireg apply ": ["lei", "repex", "rr"], "leireg search ": ["csv", "json"],
-             "leireg serve --": ["--connections", "--port", "--store", "--workers"]}
+ZSH_LINES = {
+    "leireg ": ["apply", "mirror", "serve"],
+    "leireg apply ": ["lei", "repex", "rr"],
+    "leireg search ": ["csv", "json"],
+    "leireg serve --": ["--connections", "--port", "--store", "--workers"],
+}
 
 
 def need(run, needed):
@@ -79,7 +84,8 @@ def check_builds(run):
     log = run.folder / "gate.log"
     log.write_text(f"rt: leireg proved\n{GATE}\n")
     done, package, archive = build(run, "first", "--gate-log", log)
-    if not run.report.holds("a build makes a package and an archive", done.returncode == 0 and package and archive, done.stderr):
+    is_made = done.returncode == 0 and package and archive
+    if not run.report.holds("a build makes a package and an archive", is_made, done.stderr):
         return None, None
     _, *others = build(run, "second", "--gate-log", log, umask="077")
     sums = [other and sum_of(other) for other in others]
@@ -114,8 +120,10 @@ def check_proved(run, package):
 
 def check_unproved(run):
     _, package, _ = build(run, "fourth")
-    shown = package and output_of("sh", "-c", f"dpkg-deb --fsys-tarfile {package} | tar -xO ./usr/share/doc/leireg/PROVED")
-    run.report.equal("without a log PROVED doesn't say what the gate said", proved(shown or "")[0].get("gate"), "not given")
+    page = "./usr/share/doc/leireg/PROVED"
+    shown = package and output_of("sh", "-c", f"dpkg-deb --fsys-tarfile {package} | tar -xO {page}")
+    seen = proved(shown or "")[0].get("gate")
+    run.report.equal("without a log PROVED doesn't say what the gate said", seen, "not given")
 
 
 def check_archive(run, archive, files):
@@ -140,8 +148,8 @@ def wanted_replies():
 
 
 def run_installed(run, root, sent, *words):
-    """A run of the installed program. A script that stands for the program, which `checks/faults` makes, is run from outside
-    the root, where what it needs is."""
+    """A run of the installed program. A script that stands for the program, which `checks/faults` makes, is run from
+    outside the root, where what it needs is."""
     if run.program.read_bytes()[:4] == b"\x7fELF":
         return in_root(root, "leireg", *words, sent=sent)
     return run_command(root / "usr/bin/leireg", sent, *(word.replace("/var/", f"{root}/var/") for word in words))
@@ -183,7 +191,8 @@ def check_root(run, package, files):
     run.report.equal("its settings stay", sorted(path for path in files if (root / path).exists()), ["etc/default/leireg"])
     run.report.equal("dpkg purges it", dpkg(root, "-P", "leireg"), (0, ""))
     left = {path for path in files_below(root) - before if "leireg" in path}
-    run.report.equal("and only the store is left", {path.removesuffix("-wal") for path in left}, {"var/lib/leireg/register.db"})
+    stores = {path.removesuffix("-wal") for path in left}
+    run.report.equal("and only the store is left", stores, {"var/lib/leireg/register.db"})
 
 
 # ---- the manual page and the completions
@@ -191,7 +200,7 @@ def check_root(run, package, files):
 
 def check_manual(run, tree):
     page = run.folder / "leireg.1"
-    page.write_bytes(subprocess.run(["gzip", "-dc", tree / "usr/share/man/man1/leireg.1.gz"], stdout=subprocess.PIPE).stdout)
+    page.write_bytes(gzip.decompress((tree / "usr/share/man/man1/leireg.1.gz").read_bytes()))
     lint = subprocess.run(["mandoc", "-T", "lint", "-W", "warning", page], capture_output=True, text=True)
     run.report.equal("mandoc finds no fault in the manual page", (lint.returncode, lint.stdout + lint.stderr), (0, ""))
     text, formats = page.read_text(), (ROOT / "docs" / "FORMATS.md").read_text()
@@ -233,7 +242,8 @@ def choices_of_zsh(tree, folder, line, words):
         os.execvpe("zsh", ["zsh", "-f", "-i"], {**os.environ, "TERM": "dumb", "ZDOTDIR": str(folder)})
     try:
         functions = shlex.quote(str(tree / "usr/share/zsh/vendor-completions"))
-        setup = f"PS1=; fpath=({functions} $fpath); autoload -Uz compinit; compinit -u -D; bindkey '^X' list-choices; print re''ady\n"
+        setup = (f"PS1=; fpath=({functions} $fpath); autoload -Uz compinit; compinit -u -D; bindkey '^X' list-choices;"
+                 " print re''ady\n")
         os.write(master, setup.encode())
         read_until(master, ["ready"])
         os.write(master, f"{line}\x18".encode())

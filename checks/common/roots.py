@@ -1,5 +1,5 @@
-"""Clean roots of Debian for a package to be installed in: the essential packages and a few others, with what they depend on,
-as they are installed on this machine."""
+"""Clean roots of Debian for a package to be installed in: the essential packages and a few others, with what they depend
+on, as they are installed on this machine."""
 from __future__ import annotations
 
 import os
@@ -13,19 +13,24 @@ from checks.common.programs import output_of
 MERGED = ("bin", "sbin", "lib", "lib32", "lib64", "libx32")
 FOLDERS = ("dev", "proc", "sys", "run", "tmp", "var/lib/dpkg/info", "var/lib/dpkg/updates", "etc/dpkg/dpkg.cfg.d")
 INFO = pathlib.Path("/var/lib/dpkg/info")
-# How the words of a dependency that name a package end: at a version, an architecture or an alternative.
+# The name of a package, with which a dependency begins.
 NAME = re.compile(r"^ *([a-z0-9][a-z0-9+.-]*)")
 
 
+def names_in(words, between):
+    """The names of packages among words, without versions and architectures."""
+    return [found[1] for found in map(NAME.match, words.split(between)) if found]
+
+
 def installed():
-    """The packages of this machine: by name its status in dpkg's form, those that it depends on, what it provides, and
-    whether it is essential."""
+    """The packages of this machine: by name whether each is essential, what it depends on, as lists of alternatives, and
+    what it provides."""
     shape = "${Package}\t${Essential}\t${Pre-Depends}, ${Depends}\t${Provides}\t.\n"
     found = {}
     for line in output_of("dpkg-query", "-W", "-f", shape).splitlines():
         name, essential, depends, provides, _ = line.split("\t")
-        needs = [[NAME.match(word)[1] for word in each.split("|") if NAME.match(word)] for each in depends.split(",")]
-        found[name] = (essential == "yes", needs, [NAME.match(word)[1] for word in provides.split(",") if NAME.match(word)])
+        needs = [names_in(each, "|") for each in depends.split(",")]
+        found[name] = (essential == "yes", needs, names_in(provides, ","))
     return found
 
 
