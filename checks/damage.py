@@ -80,6 +80,7 @@ CHANGES = [
     Change("a moment is before the one ahead of it", "UPDATE entry SET moment = 5 WHERE seq = 3"),
     Change("a moment is out of range", "UPDATE entry SET moment = 900000000000000000 WHERE seq = 3", replayed=NO_ENTRY),
     Change("a kind of an entry is none", "UPDATE entry SET kind = 9 WHERE seq = 3", replayed=NO_ENTRY),
+    Change("a kind of an entry is too great", "UPDATE entry SET kind = 256 WHERE seq = 3", OTHER_ROW),
     Change("an issuer isn't accredited", f"UPDATE entry SET office = '{ISSUERS[1]}' WHERE seq = 3",
            replayed=b"ISSUER_UNKNOWN"),
     Change("an issuer is no LEI", "UPDATE entry SET office = 'x' WHERE seq = 3", replayed=NO_ENTRY),
@@ -110,9 +111,13 @@ CHANGES = [
     Change("a text where a blob belongs", TEXT_FOR_BLOB, stores.CANNOT_OPEN),
     Change("a number of an upload is negative", "UPDATE entry SET number = -1 WHERE seq = 2", OTHER_ROW, is_quick=True),
     Change("a kind of a cell is negative", "UPDATE {cells} SET kind = -1 WHERE kind = 2", OTHER_ROW),
+    Change("a kind of a cell is too great", "UPDATE {cells} SET kind = 256 WHERE kind = 2", OTHER_ROW),
 ]
 # Changes of a store in one form, and of the older one.
+BOTH_TABLES = stores.FORM_TABLE + stores.CELL_TABLE
 SECOND = [
+    Change("another table in the place of the cells of form 1", "DROP TABLE cell; CREATE TABLE cell (kind TEXT)",
+           OTHER_TABLES),
     Change("a cell is added", "INSERT INTO cell2 VALUES (3, '00000000000000000195', '', 2, NULL)"),
     Change("a second row of the form", "INSERT INTO store (one, form) VALUES (2, 2)", OTHER_ROW),
     Change("another form", "UPDATE store SET form = 3", OTHER_ROW, is_quick=True),
@@ -120,7 +125,11 @@ SECOND = [
     Change("a first part of 21 characters", "UPDATE cell2 SET lei = lei || 'A'", OTHER_ROW),
     Change("a rest beside a short first part", "UPDATE cell2 SET lei = kind || touched, rest = lei", OTHER_ROW),
 ]
-FIRST = [Change("a cell is added", "INSERT INTO cell VALUES (3, '00000000000000000195', 2, NULL)")]
+FIRST = [
+    Change("a cell is added", "INSERT INTO cell VALUES (3, '00000000000000000195', 2, NULL)"),
+    Change("another form", f"{BOTH_TABLES} INSERT INTO store VALUES (1, 3)", OTHER_ROW),
+    Change("a cell of form 2", f"{BOTH_TABLES} INSERT INTO cell2 VALUES (1, 'A', '', 1, NULL)", OTHER_ROW),
+]
 BY_RULES_2, BY_RULES_1 = older_store.answer(3, 2, "ACCEPTED"), older_store.answer(4, 3, older_store.SEVERAL)
 OLDER = [
     Change("rules go back", "UPDATE entry SET rules = 1 WHERE seq = 6", replayed=NO_ENTRY),

@@ -19,8 +19,9 @@ import subprocess
 import threading
 
 from checks.common import stores
-from checks.common.file_servers import NGINX, Between, Files, SlowProxy, nginx
+from checks.common.file_servers import Between, Files, SlowProxy, nginx
 from checks.common.inputs import FORMS, ISSUER, TABLES, answer_to_accredit, answer_to_upload, compact
+from checks.common.nginx import PROGRAM
 from checks.common.programs import ROOT
 from checks.common.servers import Server
 from checks.mirrors import Held, change_items
@@ -503,7 +504,7 @@ def check_other_register(run, server, folder, cause):
 
 
 def check(run):
-    missing = [package for package, command in (("curl", shutil.which("curl")), ("nginx-light", NGINX)) if not command]
+    missing = [package for package, command in (("curl", shutil.which("curl")), ("nginx-light", PROGRAM)) if not command]
     if not run.report.equal("all packages are there", missing, []):
         return
     store = run.folder / "register.db"

@@ -132,10 +132,10 @@ def check_descriptors(run):
     run.report.equal("and serves the connection that waited", last_response(came), (200, EMPTY, True))
 
 
-def limit_files():
-    """Lets the program write files of at most 400 KB. A longer write fails, as on a full disk."""
+def limit_files(size=400_000):
+    """Lets the program write files of at most so many bytes. A longer write fails, as on a full disk."""
     signal.signal(signal.SIGXFSZ, signal.SIG_IGN)
-    resource.setrlimit(resource.RLIMIT_FSIZE, (400_000, 400_000))
+    resource.setrlimit(resource.RLIMIT_FSIZE, (size, size))
 
 
 def send_until_refused(server, bodies):

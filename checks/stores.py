@@ -1,9 +1,10 @@
 """A store is the same register at each start, for one program at a time, whatever its form and its rules are.
 
 A second program on an open store ends with status 5, under another name of the file too, and the first one goes on. A store
-of form 1 is moved to form 2 with exactly its cells, also if the program is killed while it moves them. A store that is
+of form 1, also beside empty tables of form 2, is moved to form 2 with exactly its cells, whether they fill pages of the move
+or not, and also if the program is killed while it moves them. A store that is
 closed and opened again, by `lines` or by `serve`, returns records, kept answers, copies and deltas as before. A store with
-entries by rules 1 and 2 goes on with rules 3."""
+entries by rules 1 and 2 goes on with rules 3. The usage text names these rules and this form."""
 import itertools
 import json
 import os
@@ -15,13 +16,17 @@ from checks import older_store
 from checks.common import stores
 from checks.common.inputs import (FORMS, ISSUER, ISSUERS, TABLES, accredit, as_it_stands, code, compact, exception, moment,
                                   record, records, relationship, reply_to_accredit, reply_to_upload, upload, writings)
-from checks.common.programs import Talk, lines, take_reply
+from checks.common.programs import Talk, lines, run_command, take_reply, version
 from checks.common.servers import Server
 from checks.models.sheets import Sheet, delta_to, print_sheet, row_of
 from checks.models.storing import cells_after
 
 CELLS, QUICK_CELLS = 350, 110
 MOVED, KILLS = 2_000, 30
+# How many cells the moved stores have: a page of the move has 100.
+COUNTS, QUICK_COUNTS = (0, 1, 99, 100, 101, 200, 250), (0, 100, 101)
+FURTHER = {"": "", " beside the table of the form": stores.FORM_TABLE,
+           " beside both tables of form 2": stores.FORM_TABLE + stores.CELL_TABLE}
 
 
 # ---- one program at a time
@@ -89,7 +94,8 @@ class Filled:
         self.take({"relationships": [relationship(2, 1), relationship(3, 2)], "exceptions": [exception(1)]}, ISSUER)
         self.publish = len(self.sent)
         self.add(b"PUBLISH 1\n", None)
-        self.take({"records": [record(2, {"Entity.LegalName": "Beta"})], "exceptions": [exception(4)]}, ISSUER)
+        withdrawn = exception(1, {"Action": "WITHDRAW"})
+        self.take({"records": [record(2, {"Entity.LegalName": "Beta"})], "exceptions": [exception(4), withdrawn]}, ISSUER)
         self.add(b"PUBLISH 2\n", None)
         self.take(records(count + 6, 1, None, ISSUERS[1]), ISSUERS[1])
 
@@ -172,18 +178,44 @@ def open_again(run, filled, store, before):
     run.report.equal("the same over HTTP", came, wanted)
 
 
+def compare_version(run, store):
+    """The usage text names the version, and of a store that this program made the rules of its entries and its form."""
+    told = run_command(run.program, b"", "--version").stderr.decode().splitlines()
+    [(form,)], rules = stores.rows(store, "SELECT form FROM store"), stores.entries(store)[-1][5]
+    run.report.equal("the usage text names the version, the rules of new entries and the form of a new store", told[2:4],
+                     [f"leireg {version()}: new entries have rules {rules}, and a new store has form {form}",
+                      "usage: leireg COMMAND"])
+
+
 # ---- the move from form 1
 
 
 def move(run, filled, second, before):
-    """A store of form 1 is moved with exactly its cells."""
+    """A store of form 1 is moved with exactly its cells, whichever empty tables of form 2 it has."""
     first, cells, entries = run.folder / "first.db", cells_after(filled.uploads), stores.entries(second)
-    stores.copy(second, first)
-    stores.alter(first, stores.BACK)
-    run.report.equal("a store of form 1 has the cells", (stores.tables(first), stores.cells(first, "cell")),
-                     (["cell", "entry"], cells))
-    ask_all(run, filled, first, f"moved with {len(cells)} cells", before)
-    compare_moved(run, "a store that was moved", first, entries, cells)
+    for what, tables in FURTHER.items():
+        stores.copy(second, first)
+        stores.alter(first, stores.BACK)
+        run.report.equal("a store of form 1 has the cells", (stores.tables(first), stores.cells(first, "cell")),
+                         (["cell", "entry"], cells))
+        stores.alter(first, tables)
+        ask_all(run, filled, first, f"moved with {len(cells)} cells{what}", before)
+        compare_moved(run, f"a store that was moved{what}", first, entries, cells)
+
+
+def move_counts(run):
+    """A move keeps each cell, however many they are."""
+    for count in QUICK_COUNTS if run.is_quick else COUNTS:
+        store, uploads = run.folder / f"count-{count}.db", {2: records(1, count)} if count else {}
+        sent = [accredit(), *(upload(1, compact(value)) for value in uploads.values())]
+        replies = [reply_to_accredit(1), *(reply_to_upload(2, 1, ["ACCEPTED"] * count) for _ in uploads)]
+        done = lines(run.program, b"".join(sent), "--store", store)
+        run.report.equal(f"a store of {count} cells is made", (done.returncode, done.stdout.splitlines(True)), (0, replies))
+        entries = stores.entries(store)
+        stores.alter(store, stores.BACK)
+        opened = stores.open_lines(run.program, store)
+        run.report.equal(f"a store of {count} cells is opened", opened[:4], (0, [], [], 0))
+        compare_moved(run, f"a store of {count} cells", store, entries, cells_after(uploads))
 
 
 def compare_moved(run, what, store, entries, cells):
@@ -273,7 +305,9 @@ def check(run):
     start_second_program(run)
     filled, store = Filled(run.seed, QUICK_CELLS if run.is_quick else CELLS), run.folder / "register.db"
     before = fill(run, filled, store)
+    compare_version(run, store)
     move(run, filled, store, before)
+    move_counts(run)
     if run.is_quick:
         return
     open_again(run, filled, store, before)

@@ -14,6 +14,7 @@ import pathlib
 import re
 import sys
 
+from readmes import crates
 from theorem import FUNCTIONS
 
 ROOT = pathlib.Path(__file__).resolve().parent.parent
@@ -45,13 +46,6 @@ SKIPPED = re.compile(r"^(?:pub )?(?:mod|use|infix\w*) ")
 IMPORT = re.compile(r"(?:ghost )?use Rattle\.(\w+)\.specs\.(\w+)(?:\.\{([^}]*)\}| as (\w+))?;?$")
 OPENS = re.compile(r"^\s*\{(\}| .*)?$|^.*\) (-> .*)?\{(\}| .*)?$|^.*;$")
 WORD = re.compile(r"[^\s(){}\[\];,→×≡≢⊎∷≤<¬+=|&]+")
-
-
-def crates():
-    """The crates in the order of crates.txt, which is from the lowest up."""
-    for line in (ROOT / "crates.txt").read_text().splitlines():
-        if line and not line.startswith("#"):
-            yield line.split(":")[0].split()[0]
 
 
 def signature(name, rest, following):

@@ -122,10 +122,14 @@ def word_after(words, option):
 
 
 def lose_entries(program, store, count):
-    """Makes a store anew without its last entries, but with the first. Says whether it lost some."""
-    with contextlib.closing(sqlite3.connect(store)) as database:
-        columns = "kind, office, number, body, moment, rules, answer, seq"
-        rows = list(database.execute(f"SELECT {columns} FROM entry ORDER BY seq"))
+    """Makes a store anew without its last entries, but with the first. Says whether it lost some: a store that another
+    program has open loses none."""
+    columns = "kind, office, number, body, moment, rules, answer, seq"
+    with contextlib.closing(sqlite3.connect(store, timeout=0)) as database:
+        try:
+            rows = list(database.execute(f"SELECT {columns} FROM entry ORDER BY seq"))
+        except sqlite3.OperationalError:
+            return False
     kept, forms = rows[:max(1, len(rows) - count)], {1: "ACCREDIT {0}", 2: "UPLOAD {0} {1} ", 3: "PUBLISH {1}"}
     if len(kept) >= len(rows):
         return False

@@ -7,26 +7,16 @@ import contextlib
 import http.client
 import http.server
 import pathlib
-import shutil
-import socket
 import socketserver
-import subprocess
 import threading
 import time
 
+from checks.common.nginx import Nginx, connect
 from checks.common.servers import WAIT
 
-NGINX = shutil.which("nginx", path="/usr/sbin:/usr/local/sbin:/usr/bin")
-# nginx as one process, with all that it writes in a folder.
-NGINX_CONFIGURATION = """
-daemon off; master_process off; pid {folder}/pid; error_log {folder}/log;
-events {{ }}
-http {{
-    access_log off; sendfile on; gzip on; gzip_types application/json; types {{ application/json json; }}
-    client_body_temp_path {folder}/body; proxy_temp_path {folder}/proxy; fastcgi_temp_path {folder}/fastcgi;
-    uwsgi_temp_path {folder}/uwsgi; scgi_temp_path {folder}/scgi;
-    server {{ listen {address}; location /publish/ {{ alias {files}/; }} }}
-}}
+# A site of published files.
+SITE = """sendfile on; gzip on; gzip_types application/json; types {{ application/json json; }}
+server {{ listen {address}; access_log off; location /publish/ {{ alias {files}/; }} }}
 """
 
 
@@ -91,38 +81,9 @@ class Files(Threads):
 # ---- nginx behind a slow proxy
 
 
-@contextlib.contextmanager
 def nginx(folder, files, address):
-    """nginx, which serves files below /publish/ at an address: a host and a port, or `unix:` and a path. The folder is
-    for what it writes."""
-    folder.mkdir()
-    configuration = folder / "nginx.conf"
-    configuration.write_text(NGINX_CONFIGURATION.format(folder=folder, files=files, address=address))
-    with subprocess.Popen([NGINX, "-c", configuration, "-e", folder / "log"], stderr=subprocess.DEVNULL) as process:
-        try:
-            wait_for(address)
-            yield
-        finally:
-            process.terminate()
-
-
-def connect(address):
-    """A connection to such an address."""
-    if not address.startswith("unix:"):
-        return socket.create_connection(address.split(":"), WAIT)
-    peer = socket.socket(socket.AF_UNIX)
-    peer.connect(address.removeprefix("unix:"))
-    return peer
-
-
-def wait_for(address):
-    end = time.monotonic() + WAIT
-    while True:
-        with contextlib.suppress(OSError):
-            return connect(address).close()
-        if time.monotonic() > end:
-            raise RuntimeError(f"nothing listens at {address}")
-        time.sleep(0.01)
+    """nginx, which serves files below /publish/ at an address. The folder is for what it writes."""
+    return Nginx(folder, address, SITE.format(files=files, address=address))
 
 
 class SlowReply(socketserver.BaseRequestHandler):

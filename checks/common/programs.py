@@ -6,12 +6,14 @@ import dataclasses
 import os
 import pathlib
 import platform
+import re
 import shutil
 import subprocess
 import sys
 
 ROOT = pathlib.Path(__file__).resolve().parent.parent.parent
 PROGRAM = ROOT / "crates" / "leireg" / "out" / "leireg"
+VERSION = ROOT / "crates" / "program_words" / "src" / "version.rt"
 SPEND = pathlib.Path(__file__).with_name("spend.py")
 
 
@@ -25,6 +27,11 @@ def find_program(given=None):
         return program
     subprocess.run([ROOT / "leireg", "lines"], stdin=subprocess.DEVNULL, check=True)
     return PROGRAM
+
+
+def version():
+    """The version of the program, which stands in one place of the sources."""
+    return re.search(r'VERSION: .* = "(.+)";', VERSION.read_text())[1]
 
 
 def compile_c(source, folder, *flags):

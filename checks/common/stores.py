@@ -14,6 +14,17 @@ from checks.common.servers import LISTENS
 BACK = """INSERT INTO cell (kind, name, touched, row)
 SELECT kind, lei || rest, touched, row FROM cell2 ORDER BY touched, kind, lei, rest;
 DROP TABLE cell2; DROP TABLE store;"""
+# The tables that form 2 has and form 1 doesn't.
+FORM_TABLE = "CREATE TABLE store (one INTEGER PRIMARY KEY, form INTEGER NOT NULL) STRICT;"
+CELL_TABLE = """CREATE TABLE cell2 (
+  kind INTEGER NOT NULL,
+  lei TEXT NOT NULL,
+  rest TEXT NOT NULL,
+  touched INTEGER NOT NULL CHECK (touched >= 1),
+  row BLOB,
+  PRIMARY KEY (kind, lei, rest),
+  UNIQUE (touched, kind, lei, rest)
+) STRICT;"""
 ENDS = ("", "-wal", "-shm")
 # The cells of each form, as the columns of form 1.
 CELLS = {"cell": "SELECT kind, name, touched, row FROM cell", "cell2": "SELECT kind, lei || rest, touched, row FROM cell2"}

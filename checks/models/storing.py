@@ -78,10 +78,12 @@ def cell_damage(kept, right, entries):
 
 
 def cells_after(uploads):
-    """The cells after uploads all of whose items are accepted: their values, by the numbers of their entries."""
+    """The cells after uploads all of whose items are accepted: their values, by the numbers of their entries. That of an
+    exception that was withdrawn has no row."""
     cells = {}
     for touched, value in uploads.items():
         for kind, (member, table) in MEMBERS.items():
             for item in value.get(member, []):
-                cells[kind, " ".join(row_of(table, item)[0])] = touched, compact(item)
+                row = None if item.get("Action") == "WITHDRAW" else compact(item)
+                cells[kind, " ".join(row_of(table, item)[0])] = touched, row
     return [(*key, *cells[key]) for key in sorted(cells)]

@@ -1,9 +1,7 @@
-//! Tests of stores in SQLite files from outside: sessions over them, crashes, moves, and damage.
+//! Tests of stores in SQLite files from outside: sessions over them, crashes, and stops in a move.
 #![tactic(auto)]
 
 pub mod batches;
-#[cfg(test)]
-mod damage;
 #[cfg(test)]
 mod file_keeper;
 #[cfg(test)]

@@ -1,16 +1,15 @@
-//! Stores of form 1, as an earlier program left them. The first call moves a store to form 2, and from then on it
-//! answers like a store that always had form 2.
-use crate::runs::{Kept, Output, content_after, content_of, run_over};
+//! Stores of form 1, as an earlier program left them. The first call moves a store to form 2, and a stop in the middle
+//! of the move loses nothing.
+use crate::runs::{Kept, content_after, content_of};
 use crate::sqlite_keeper::{
     Ending, Failing, files_after_crash, files_with_fuses, is_answered, no_files,
 };
-use crate::transfer::{acknowledged_count, first_lines};
+use crate::transfer::first_lines;
 use keeper_sqlite::SqliteKeeper;
 use lei_keeper::Keeper;
-use lei_values::{Bytes, KeptCell, KeptEntry, List, NoMemory, Shared};
-use register_words::ExitStatus;
+use lei_values::{KeptCell, KeptEntry, Shared};
 use sqlite::types::ValueRef;
-use sqlite::{Alter, Connection, FileStore, MemStore};
+use sqlite::{Alter, Connection, FileStore};
 use sqlite_disk::{Crash, Files, Memory};
 use sqlite_pager::Options;
 use std::alloc::Global;
@@ -37,24 +36,6 @@ CREATE TABLE IF NOT EXISTS cell (
   row BLOB,
   PRIMARY KEY (kind, name),
   UNIQUE (touched, kind, name)
-) STRICT";
-
-// What a store of form 1 may have in addition: nothing, or tables of form 2 without rows.
-const FURTHER: [&str; 3] = ["", OF_THE_FORM, ALL];
-
-const OF_THE_FORM: &str =
-    "CREATE TABLE store (one INTEGER PRIMARY KEY, form INTEGER NOT NULL) STRICT";
-
-/// All tables of form 2, without rows.
-pub const ALL: &str = "CREATE TABLE store (one INTEGER PRIMARY KEY, form INTEGER NOT NULL) STRICT;
-CREATE TABLE cell2 (
-  kind INTEGER NOT NULL,
-  lei TEXT NOT NULL,
-  rest TEXT NOT NULL,
-  touched INTEGER NOT NULL CHECK (touched >= 1),
-  row BLOB,
-  PRIMARY KEY (kind, lei, rest),
-  UNIQUE (touched, kind, lei, rest)
 ) STRICT";
 
 // What an earlier program ran for each entry, and for each cell that it touched.
@@ -120,261 +101,18 @@ fn puts_cells<S: Alter>(conn: &mut Connection<S>, cells: &[KeptCell]) -> bool {
 }
 
 // Whether an empty database is made into a store of form 1 with these entries and cells.
-fn is_made<S: Alter>(conn: &mut Connection<S>, further: &str, kept: &Kept) -> bool {
+fn is_made<S: Alter>(conn: &mut Connection<S>, kept: &Kept) -> bool {
     conn.execute_batch(TABLES).is_ok()
-        && conn.execute_batch(further).is_ok()
         && puts_entries(conn, kept.entries.as_slice())
         && puts_cells(conn, kept.cells.as_slice())
 }
 
-// The number that a query returns, if it returns one.
-fn number<S: Alter>(conn: &mut Connection<S>, query: &str) -> Option<i64> {
-    match conn.query_row(query, &[]) {
+// The form that is written in a store: none in form 1.
+fn form<S: Alter>(conn: &mut Connection<S>) -> Option<i64> {
+    match conn.query_row("SELECT form FROM store", &[]) {
         Ok(row) => row.get(0).ok(),
         Err(_) => None,
     }
-}
-
-// The form that is written in a store: none in form 1.
-fn form<S: Alter>(conn: &mut Connection<S>) -> Option<i64> {
-    number(conn, "SELECT form FROM store")
-}
-
-// Whether a store has form 2, and no cell of form 1 is left.
-fn is_moved<S: Alter>(conn: &mut Connection<S>) -> bool {
-    form(conn) == Some(2) && number(conn, "SELECT count(*) FROM cell") == Some(0)
-}
-
-/// A store of form 1 with these entries and cells, in an empty database.
-pub fn first_in<S: Alter + Drop>(
-    mut conn: Connection<S>,
-    further: &str,
-    kept: &Kept,
-) -> Option<Connection<S>> {
-    is_made(&mut conn, further, kept).then_some(conn)
-}
-
-/// An empty database in memory.
-pub fn memory(alloc: Global) -> Option<Connection<MemStore>> {
-    Connection::open_in_memory(alloc).ok()
-}
-
-/// The connection, returned if the store has form 1 and the first call over it moves it.
-pub fn connection_after_move<S: Alter + Drop>(
-    alloc: Global,
-    mut conn: Connection<S>,
-) -> Option<Connection<S>> {
-    if form(&mut conn).is_some() {
-        return None;
-    }
-    let mut keeper = SqliteKeeper::over(alloc, conn);
-    let is_answered = keeper.last().is_ok();
-    let mut conn = keeper.into_connection()?;
-    (is_answered && is_moved(&mut conn)).then_some(conn)
-}
-
-// ---- answers
-
-// The lines that make a store with cells of each kind, one of them without a row: two records, a relationship and
-// exceptions, one of which is withdrawn, and a publication. Each record has its name, its number at its authority, its
-// LEI, and what follows it.
-macro_rules! making_lines {
-    ($([$name:literal $number:literal $lei:literal $after:literal])*) => {
-        concat!(
-            "ACCREDIT 506700GE1G29325QX363\n",
-            r#"UPLOAD 506700GE1G29325QX363 1 {"records":["#,
-            $(
-                r#"{"Entity.EntityCategory":"GENERAL","Entity.EntityStatus":"ACTIVE","#,
-                r#""Entity.HeadquartersAddress.City":"Paris","Entity.HeadquartersAddress.Country":"FR","#,
-                r#""Entity.HeadquartersAddress.FirstAddressLine":"1 Main Street","#,
-                r#""Entity.LegalAddress.City":"Paris","Entity.LegalAddress.Country":"FR","#,
-                r#""Entity.LegalAddress.FirstAddressLine":"1 Main Street","#,
-                r#""Entity.LegalForm.EntityLegalFormCode":"AB12","Entity.LegalJurisdiction":"FR","#,
-                r#""Entity.LegalName":""#, $name,
-                r#"","Entity.RegistrationAuthority.RegistrationAuthorityEntityID":""#, $number,
-                r#"","Entity.RegistrationAuthority.RegistrationAuthorityID":"RA000001","#,
-                r#""LEI":""#, $lei,
-                r#"","Registration.InitialRegistrationDate":"2025-01-10T09:00:00Z","#,
-                r#""Registration.LastUpdateDate":"2025-01-10T09:00:00Z","#,
-                r#""Registration.ManagingLOU":"506700GE1G29325QX363","#,
-                r#""Registration.NextRenewalDate":"2026-01-10T09:00:00Z","#,
-                r#""Registration.RegistrationStatus":"ISSUED","#,
-                r#""Registration.ValidationSources":"FULLY_CORROBORATED"}"#, $after,
-            )*
-            r#"UPLOAD 506700GE1G29325QX363 2 {"exceptions":["#,
-            r#"{"ExceptionCategory":"DIRECT_ACCOUNTING_CONSOLIDATION_PARENT","#,
-            r#""ExceptionReason":"NON_CONSOLIDATING","LEI":"00000000000000000195"},"#,
-            r#"{"ExceptionCategory":"DIRECT_ACCOUNTING_CONSOLIDATION_PARENT","#,
-            r#""ExceptionReason":"NON_CONSOLIDATING","LEI":"00000000000000000292"}],"relationships":["#,
-            r#"{"Registration.InitialRegistrationDate":"2025-01-10T09:00:00Z","#,
-            r#""Registration.LastUpdateDate":"2025-01-10T09:00:00Z","#,
-            r#""Registration.ManagingLOU":"506700GE1G29325QX363","Registration.RegistrationStatus":"PUBLISHED","#,
-            r#""Registration.ValidationSources":"FULLY_CORROBORATED","#,
-            r#""Relationship.EndNode":"00000000000000000292","Relationship.RelationshipStatus":"ACTIVE","#,
-            r#""Relationship.RelationshipType":"IS_ULTIMATELY_CONSOLIDATED_BY","#,
-            r#""Relationship.StartDate":"2025-01-10T09:00:00Z","#,
-            r#""Relationship.StartNode":"00000000000000000195"}]}"#,
-            "\n",
-            r#"UPLOAD 506700GE1G29325QX363 3 {"exceptions":[{"Action":"WITHDRAW","#,
-            r#""ExceptionCategory":"DIRECT_ACCOUNTING_CONSOLIDATION_PARENT","LEI":"00000000000000000292"}]}"#,
-            "\nPUBLISH 1\n",
-        )
-    };
-}
-
-const MADE: &str = making_lines!(
-    ["Alpha" "1001" "00000000000000000195" ","]
-    ["Beta" "1002" "00000000000000000292" "]}\n"]
-);
-
-// The requests after that: five lines whose replies start with 200, the last of them a new upload, and then
-// publications.
-const LATER: &str = concat!(
-    "KEPT 506700GE1G29325QX363 3\nSHOW 00000000000000000195\nSHOW 00000000000000000292\nSTATUS\n",
-    r#"UPLOAD 506700GE1G29325QX363 4 {"exceptions":[{"Action":"WITHDRAW","#,
-    r#""ExceptionCategory":"DIRECT_ACCOUNTING_CONSOLIDATION_PARENT","LEI":"00000000000000000195"}]}"#,
-    "\nPUBLISH 2\nCOPY lei csv\nCOPY rr json\nCOPY repex csv\nDELTA 1 repex json\n",
-);
-
-// A run over a keeper: how it ended, and what the keeper has afterwards.
-#[derive(Drop)]
-struct Run {
-    output: Output,
-    kept: Kept,
-}
-
-impl Run {
-    // Whether another run ended in the same way and left the same.
-    fn is_like(&self, other: &Run) -> bool {
-        self.output.status == other.output.status
-            && self.output.written() == other.output.written()
-            && self.kept == other.kept
-    }
-}
-
-fn later_run<R: Threads + Sync, K: Keeper + Drop>(rt: &R, alloc: Global, keeper: K) -> Option<Run> {
-    let (output, mut keeper) = run_over(rt, alloc, LATER.as_bytes(), keeper)?;
-    let kept = content_of(&mut keeper).ok()?;
-    Some(Run { output, kept })
-}
-
-// A run over a store that had form 2 from its first line on, in an empty database.
-fn run_over_second<R: Threads + Sync, S: Alter + Drop>(
-    rt: &R,
-    alloc: Global,
-    conn: Connection<S>,
-    made: &[u8],
-) -> Option<Run> {
-    let (_, keeper) = run_over(rt, alloc, made, SqliteKeeper::over(alloc, conn))?;
-    later_run(rt, alloc, keeper)
-}
-
-// A run over a store of form 1 that its first call moves, in an empty database.
-fn run_over_first<R: Threads + Sync, S: Alter + Drop>(
-    rt: &R,
-    alloc: Global,
-    conn: Connection<S>,
-    further: &str,
-    kept: &Kept,
-) -> Option<Run> {
-    let conn = first_in(conn, further, kept)?;
-    let conn = connection_after_move(alloc, conn)?;
-    later_run(rt, alloc, SqliteKeeper::over(alloc, conn))
-}
-
-// A run over a store that always had form 2, if its first replies are acknowledgements.
-fn wanted_run<R: Threads + Sync>(rt: &R, alloc: Global, made: &[u8]) -> Option<Run> {
-    let wanted = run_over_second(rt, alloc, memory(alloc)?, made)?;
-    let is_sound = wanted.output.status == ExitStatus::Ok.number()
-        && acknowledged_count(wanted.output.written()) == 5;
-    is_sound.then_some(wanted)
-}
-
-// The first of the tables in addition to those of form 1 with which a store answers differently from one of form 2.
-fn first_unlike<R: Threads + Sync>(
-    rt: &R,
-    alloc: Global,
-    wanted: &Run,
-    old: &Kept,
-) -> Option<&'static str> {
-    for further in FURTHER {
-        let is_alike = match memory(alloc) {
-            Some(conn) => match run_over_first(rt, alloc, conn, further, old) {
-                Some(run) => run.is_like(wanted),
-                None => false,
-            },
-            None => false,
-        };
-        if !is_alike {
-            return Some(further);
-        }
-    }
-    None
-}
-
-#[test]
-fn a_store_of_form_1_answers_as_one_of_form_2(rt: HostRuntime) -> Result<(), Fail> {
-    let wanted = wanted_run(&rt, rt.alloc(), MADE.as_bytes()).ok_or("a store of form 2")?;
-    let old = content_after(&rt, rt.alloc(), MADE.as_bytes()).ok_or("what it has")?;
-    let unlike = first_unlike(&rt, rt.alloc(), &wanted, &old);
-    assert!(rt; unlike.is_none(), "{unlike:?}");
-    Ok(())
-}
-
-// ---- pages
-
-// This many cells of an entry, in the order of their names, which have more characters than an LEI.
-fn many_cells(alloc: Global, count: u64) -> Result<List<KeptCell>, NoMemory> {
-    let mut list = Vec::new(alloc);
-    for at in 0..count {
-        let name = format!(in alloc; "{at:025}")?;
-        list.push(KeptCell {
-            kind: 1,
-            name: Bytes::copy_of(alloc, name.as_bytes())?,
-            touched: 1,
-            row: Some(Shared::copy_of(alloc, name.as_bytes())?),
-        })?;
-    }
-    Ok(List::from(list))
-}
-
-fn puts_cells_backwards<S: Alter>(conn: &mut Connection<S>, cells: &[KeptCell]) -> bool {
-    for cell in cells.iter().rev() {
-        if !puts_cell(conn, cell) {
-            return false;
-        }
-    }
-    true
-}
-
-// Whether these cells, which are put into an empty database from the last to the first, are the same after a move.
-fn moves_cells<S: Alter + Drop>(
-    alloc: Global,
-    mut conn: Connection<S>,
-    cells: List<KeptCell>,
-) -> bool {
-    if conn.execute_batch(TABLES).is_err() || !puts_cells_backwards(&mut conn, cells.as_slice()) {
-        return false;
-    }
-    match connection_after_move(alloc, conn) {
-        Some(conn) => SqliteKeeper::over(alloc, conn).cells(0, u64::MAX) == Ok(cells),
-        None => false,
-    }
-}
-
-// Whether this many cells are the same after a move.
-fn moves_count(alloc: Global, count: u64) -> Option<bool> {
-    let cells = many_cells(alloc, count).ok()?;
-    Some(moves_cells(alloc, memory(alloc)?, cells))
-}
-
-// A page of the move has 100 cells.
-#[test]
-fn a_move_of_several_pages_keeps_each_cell(rt: HostRuntime) -> Result<(), Fail> {
-    for count in [0u64, 1, 99, 100, 101, 250] {
-        assert!(rt; moves_count(rt.alloc(), count) == Some(true), "{count}");
-    }
-    Ok(())
 }
 
 // ---- stopped at each call of a disk
@@ -385,8 +123,9 @@ fn first_files(alloc: Global, kept: &Kept) -> Option<Files<Memory>> {
     if !files.may_be_used() {
         return None;
     }
-    let conn = Connection::open_files(alloc, files, Options::new(7)).ok()?;
-    files_of(first_in(conn, "", kept)?)
+    let mut conn = Connection::open_files(alloc, files, Options::new(7)).ok()?;
+    let is_made = is_made(&mut conn, kept);
+    is_made.then_some(files_of(conn)?)
 }
 
 fn files_of(conn: Connection<FileStore<Memory>>) -> Option<Files<Memory>> {

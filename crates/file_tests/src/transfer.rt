@@ -94,8 +94,8 @@ fn course_of(status: u8, written: &[u8]) -> Course {
     }
 }
 
-/// How many lines of replies start with 200, up to the first that doesn't.
-pub fn acknowledged_count(written: &[u8]) -> u64 {
+// How many lines of replies start with 200, up to the first that doesn't.
+fn acknowledged_count(written: &[u8]) -> u64 {
     let mut count: u64 = 0;
     for line in written.split(|byte: &u8| -> bool { *byte == b'\n' }) {
         if !line.starts_with(b"200 ") {

@@ -8,6 +8,7 @@ mod fault;
 mod help;
 mod runs;
 mod telling;
+mod version;
 
 pub use arguments::words;
 pub use fault::WordsFault;
