@@ -211,6 +211,8 @@ def check_history(run, postgres, register, folder):
     for number in range(1, last + 1):
         register.publish(folder)
         status, written = take(postgres, folder)
+        if number == 1:
+            shutil.copytree(folder, run.folder / "early")
         if (status, is_whole(postgres, register, out)) != (0, (number, True)):
             wrong.append((number, status, written[-500:], is_whole(postgres, register, out)))
     run.report.equal("the register takes all items, and publishes them", register.odd[:3], [])
@@ -309,21 +311,26 @@ def check_wrong_files(run, postgres, register, folder):
                      (0, (number, True)))
 
 
-def check_kills(run, postgres, register, folder):
-    """Kills runs and sessions of the database in the middle, from nothing and from an earlier publication."""
-    odd, seen, out = [], set(), run.folder / "out"
+def check_kills(run, postgres, register, folder, early):
+    """Kills runs and sessions of the database, of which some start from nothing and take copies, and some from an early
+    publication, and take deltas."""
+    odd, left, out = [], [], run.folder / "out"
     for place in range(QUICK_KILLS if run.is_quick else KILLS):
-        postgres.ask("DROP SCHEMA IF EXISTS leireg CASCADE")
+        postgres.ask("DROP SCHEMA leireg CASCADE")
+        if place % 2:
+            take(postgres, early)
         process = start([INTO, folder, *postgres.words])
-        if place % 3 == 2:
+        is_of_session = place % 3 == 2
+        if is_of_session:
             kill_session(postgres, process)
-        _, written = finish(process, register.chance.uniform(0.05, 0.4) if place % 3 != 2 else 120)
+        _, written = finish(process, 120 if is_of_session else register.chance.uniform(0.05, 0.4))
         postgres.wait()
         number, whole = is_whole(postgres, register, out)
-        seen.add(number)
+        left.append(number)
         if not whole or "Traceback" in written:
             odd.append((place, number, written))
-    run.report.equal("a run that is killed, or whose session is, leaves a whole publication", odd[:2], [])
+    run.report.equal("a run that is killed, or whose session is, leaves a whole publication or none", odd[:2], [])
+    run.report.note(f"of the latest publication, {register.number}, and an early one, runs that were killed left {left}")
     status, written = take(postgres, folder)
     run.report.equal("and the next run takes the latest", (status, is_whole(postgres, register, out)),
                      (0, (register.number, True)))
@@ -401,5 +408,5 @@ def check(run):
         check_missing(run, postgres, register, folder)
         check_wrong_files(run, postgres, register, folder)
         check_two(run, postgres, register, folder)
-        check_kills(run, postgres, register, folder)
+        check_kills(run, postgres, register, folder, run.folder / "early")
         check_pandas(run, register, store)
