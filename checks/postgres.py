@@ -1,11 +1,11 @@
 """PostgreSQL follows a register by examples/into_postgres, and has its golden copies byte for byte.
 
 A register makes ten publications, in which rows of all three tables come, change and go. `leireg-files` exports each.
-`into_postgres` takes it into a PostgreSQL of the check's own, and `export_from_postgres.sql` writes the three tables, which
-are compared with the register's copies in CSV. A further run changes no row. Runs and sessions of the database are killed,
-two run at once, and files are taken away, damaged, or another table's: the database then has one whole publication. The
-column types, the index by words and the order of keys are tried by queries. The code of examples/pandas.md reads the same
-copies and the store. It needs Debian's packages postgresql and python3-pandas."""
+`into_postgres` takes it into a PostgreSQL of the check's own, and `export_from_postgres.sql` writes the three tables,
+which are compared with the register's copies in CSV. A further run changes no row. Runs and sessions of the database
+are killed, two run at once, and files are taken away, damaged, or another table's: the database then has one whole
+publication. The types of columns, the index by words and the keys are tried by queries. The code of examples/pandas.md
+reads the same copies and the store. It needs Debian's packages postgresql and python3-pandas."""
 import contextlib
 import csv
 import hashlib
@@ -58,8 +58,8 @@ class Postgres:
             folder.parent.chmod(0o711)
             shutil.chown(folder, "postgres", "postgres")
         self.words = ["--host", str(folder), "--username", "check", "--dbname", "postgres"]
-        self.command(pathlib.Path(found).with_name("initdb"), "--pgdata", folder / "data", "--auth", "trust", "--username",
-                     "check", "--encoding", "UTF8", "--locale", "C.UTF-8", "--no-sync").wait(WAIT)
+        self.command(pathlib.Path(found).with_name("initdb"), "--pgdata", folder / "data", "--auth", "trust",
+                     "--username", "check", "--encoding", "UTF8", "--locale", "C.UTF-8", "--no-sync").wait(WAIT)
         self.process = self.command(found, "-D", folder / "data", "-c", "listen_addresses=", "-c",
                                     f"unix_socket_directories={folder}", "-c", "fsync=off", "-c", "shared_buffers=16MB")
         try:
@@ -126,11 +126,11 @@ class Postgres:
 
 
 def special_items(number):
-    """Items for each publication that show what columns have to hold: successors, an event, the first and the last moment,
-    absent fields, and texts with what SQL, COPY and CSV write in their own ways."""
+    """Items for each publication that show what columns have to hold: successors, an event, the first and the last
+    moment, absent fields, and texts with what SQL, COPY and CSV write in their own ways."""
     odd = {"Entity.LegalName": f"{ODD_NAME} {number}", "Entity.LegalAddress.Country": "NA",
-           "Entity.LegalAddress.Region": "null", "Entity.LegalAddress.City": "\\\\", "Entity.LegalAddress.PostalCode": "007",
-           "Entity.EntityCreationDate": "0001-01-01T00:00:00Z"}
+           "Entity.LegalAddress.Region": "null", "Entity.LegalAddress.City": "\\\\",
+           "Entity.LegalAddress.PostalCode": "007", "Entity.EntityCreationDate": "0001-01-01T00:00:00Z"}
     event = {"Entity.Event.1.Type": "MERGER", "Entity.Event.1.EffectiveDate": "9998-12-31T23:59:59Z",
              "Entity.Event.1.RecordedDate": moment(-2), "Entity.Event.1.Status": "IN_PROGRESS"}
     retired = {"Entity.EntityStatus": "INACTIVE", "Registration.RegistrationStatus": "RETIRED",
@@ -241,7 +241,8 @@ def check_queries(run, postgres, register):
     words = "to_tsvector('simple', legal_name) @@ plainto_tsquery('simple', 'ünïcode 株式会社')"
     run.report.equal("an entity is found by words of its name",
                      ask(f"SELECT lei FROM leireg.lei WHERE {words}"), lei)
-    plan = postgres.psql("-c", "SET enable_seqscan = off", "-c", f"EXPLAIN SELECT lei FROM leireg.lei WHERE {words}").stdout
+    explain = f"EXPLAIN SELECT lei FROM leireg.lei WHERE {words}"
+    plan = postgres.psql("-c", "SET enable_seqscan = off", "-c", explain).stdout
     run.report.holds("and by way of the index", "lei_words" in plan, plan)
     keys = ask("SELECT string_agg(a.attname, ' ' ORDER BY a.attnum) FROM pg_constraint c JOIN pg_attribute a "
                "ON a.attrelid = c.conrelid AND a.attnum = ANY (c.conkey) WHERE c.contype = 'p' "
@@ -258,19 +259,19 @@ def check_missing(run, postgres, register, folder):
     for table in TABLES[:1] if run.is_quick else TABLES:
         register.publish(folder)
         base, number = register.number - 1, register.number
-        (folder / table / f"{base}-{number}.json").rename(run.folder / "away")
-        copy = folder / table / f"{number}.json"
-        copy.rename(run.folder / "copy")
+        delta, copy = f"{table}/{base}-{number}.json", f"{table}/{number}.json"
+        (folder / delta).rename(run.folder / "away")
+        (folder / copy).rename(run.folder / "copy")
         status, written = take(postgres, folder)
         run.report.holds(f"without the delta and the copy of {table} nothing is taken, and both are named",
                          (status, is_whole(postgres, register, out)) == (1, (base, True))
-                         and f"{table}/{base}-{number}.json" in written and f"{table}/{number}.json" in written, written)
-        (run.folder / "copy").rename(copy)
+                         and delta in written and copy in written, written)
+        (run.folder / "copy").rename(folder / copy)
         status, written = take(postgres, folder)
         run.report.holds(f"without the delta of {table} the copies are taken, and it is named",
                          (status, is_whole(postgres, register, out)) == (0, (number, True))
-                         and f"{table}/{base}-{number}.json" in written, written)
-        (run.folder / "away").rename(folder / table / f"{base}-{number}.json")
+                         and delta in written, written)
+        (run.folder / "away").rename(folder / delta)
 
 
 def changed_files(folder, base, number):
@@ -283,7 +284,7 @@ def changed_files(folder, base, number):
         "a changed byte": (lei, data.replace(b"Paris", b"Pariz", 1), False),
         "no JSON": (lei, data.replace(b'"record":', b'"record";', 1), True),
         "a wrong count": (lei, re.sub(rb'"recordCount":(\d+)', rb'"recordCount":1\1', data, count=1), True),
-        "another base": (lei, data.replace(b'"fromPublication":%d,' % base, b'"fromPublication":%d,' % (base + 50)), True),
+        "another base": (lei, data.replace(b'"fromPublication":%d,' % base, b'"fromPublication":%d,' % number), True),
         "a moment that is none": (lei, data.replace(b'-01-10T09:00:00Z"', b'-01-32T09:00:00Z"', 1), True),
         "a third kind of change": (lei, data.replace(b'"action":"PUT"', b'"action":"ADD"', 1), True),
     }
@@ -330,7 +331,7 @@ def check_kills(run, postgres, register, folder, early):
         if not whole or "Traceback" in written:
             odd.append((place, number, written))
     run.report.equal("a run that is killed, or whose session is, leaves a whole publication or none", odd[:2], [])
-    run.report.note(f"of the latest publication, {register.number}, and an early one, runs that were killed left {left}")
+    run.report.note(f"the publications that runs left that were killed on the way to {register.number}: {left}")
     status, written = take(postgres, folder)
     run.report.equal("and the next run takes the latest", (status, is_whole(postgres, register, out)),
                      (0, (register.number, True)))
@@ -385,12 +386,13 @@ def check_pandas(run, register, store):
     outputs = [subprocess.run([python, "-c", block + last], cwd=folder, capture_output=True, text=True)
                for block, last in zip(blocks, ends)]
     run.report.equal("no block fails", [done.stderr for done in outputs if done.returncode], [])
-    run.report.equal("a copy in CSV has each text", list(csv.reader(io.StringIO(outputs[0].stdout))) == wanted_rows, True)
+    came_rows = list(csv.reader(io.StringIO(outputs[0].stdout)))
+    run.report.equal("a copy in CSV has each text", came_rows == wanted_rows, True)
     names, *rows = csv.reader(io.StringIO(outputs[1].stdout))
     came = {row[names.index("LEI")]: dict(zip(names, row)) for row in rows}
     wanted = {row[0]: dict(zip(wanted_rows[0], row)) for row in wanted_rows[1:]}
-    run.report.equal("a copy in JSON has each text",
-                     {lei: {name: row.get(name, "") for name in wanted_rows[0]} for lei, row in came.items()} == wanted, True)
+    came = {lei: {name: row.get(name, "") for name in wanted_rows[0]} for lei, row in came.items()}
+    run.report.equal("a copy in JSON has each text", came == wanted, True)
     entries, cells = stores.entries(folder / "register.db"), stores.cells(folder / "register.db")
     body = next(bytes(value) for value in entries[1] if isinstance(value, bytes))
     run.report.equal("the store's entries have their bodies as text",

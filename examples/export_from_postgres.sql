@@ -11,7 +11,19 @@ CREATE FUNCTION pg_temp.printed(moment timestamptz) RETURNS text LANGUAGE sql AS
     $$ SELECT coalesce(to_char(moment AT TIME ZONE 'UTC', 'YYYY-MM-DD"T"HH24:MI:SS"Z"'), '') $$;
 
 \o lei.csv
-\qecho '"LEI","Entity.LegalName","Entity.LegalName.xmllang","Entity.LegalAddress.FirstAddressLine","Entity.LegalAddress.City","Entity.LegalAddress.Region","Entity.LegalAddress.Country","Entity.LegalAddress.PostalCode","Entity.HeadquartersAddress.FirstAddressLine","Entity.HeadquartersAddress.City","Entity.HeadquartersAddress.Region","Entity.HeadquartersAddress.Country","Entity.HeadquartersAddress.PostalCode","Entity.RegistrationAuthority.RegistrationAuthorityID","Entity.RegistrationAuthority.RegistrationAuthorityEntityID","Entity.LegalJurisdiction","Entity.EntityCategory","Entity.LegalForm.EntityLegalFormCode","Entity.EntityStatus","Entity.EntityCreationDate","Entity.SuccessorEntity.1.SuccessorLEI","Registration.InitialRegistrationDate","Registration.LastUpdateDate","Registration.RegistrationStatus","Registration.NextRenewalDate","Registration.ManagingLOU","Registration.ValidationSources","Register.TransferTo","Entity.Event.1.Type","Entity.Event.1.EffectiveDate","Entity.Event.1.RecordedDate","Entity.Event.1.Status"'
+\qecho -n '"LEI","Entity.LegalName","Entity.LegalName.xmllang","Entity.LegalAddress.FirstAddressLine",'
+\qecho -n '"Entity.LegalAddress.City","Entity.LegalAddress.Region","Entity.LegalAddress.Country",'
+\qecho -n '"Entity.LegalAddress.PostalCode","Entity.HeadquartersAddress.FirstAddressLine",'
+\qecho -n '"Entity.HeadquartersAddress.City","Entity.HeadquartersAddress.Region",'
+\qecho -n '"Entity.HeadquartersAddress.Country","Entity.HeadquartersAddress.PostalCode",'
+\qecho -n '"Entity.RegistrationAuthority.RegistrationAuthorityID",'
+\qecho -n '"Entity.RegistrationAuthority.RegistrationAuthorityEntityID","Entity.LegalJurisdiction",'
+\qecho -n '"Entity.EntityCategory","Entity.LegalForm.EntityLegalFormCode","Entity.EntityStatus",'
+\qecho -n '"Entity.EntityCreationDate","Entity.SuccessorEntity.1.SuccessorLEI",'
+\qecho -n '"Registration.InitialRegistrationDate","Registration.LastUpdateDate",'
+\qecho -n '"Registration.RegistrationStatus","Registration.NextRenewalDate","Registration.ManagingLOU",'
+\qecho -n '"Registration.ValidationSources","Register.TransferTo","Entity.Event.1.Type",'
+\qecho '"Entity.Event.1.EffectiveDate","Entity.Event.1.RecordedDate","Entity.Event.1.Status"'
 COPY (
     SELECT lei, legal_name, coalesce(legal_name_language, ''),
         legal_address_line, legal_address_city, coalesce(legal_address_region, ''),
@@ -28,7 +40,10 @@ COPY (
 ) TO STDOUT (FORMAT csv, FORCE_QUOTE *);
 
 \o rr.csv
-\qecho '"Relationship.StartNode","Relationship.RelationshipType","Relationship.EndNode","Relationship.RelationshipStatus","Relationship.StartDate","Relationship.EndDate","Registration.InitialRegistrationDate","Registration.LastUpdateDate","Registration.RegistrationStatus","Registration.ManagingLOU","Registration.ValidationSources"'
+\qecho -n '"Relationship.StartNode","Relationship.RelationshipType","Relationship.EndNode",'
+\qecho -n '"Relationship.RelationshipStatus","Relationship.StartDate","Relationship.EndDate",'
+\qecho -n '"Registration.InitialRegistrationDate","Registration.LastUpdateDate",'
+\qecho '"Registration.RegistrationStatus","Registration.ManagingLOU","Registration.ValidationSources"'
 COPY (
     SELECT start_node, relationship_type, end_node, relationship_status,
         pg_temp.printed(start_date), pg_temp.printed(end_date),
