@@ -22,7 +22,8 @@ import sys
 import time
 
 from checks.common import stores
-from checks.common.inputs import (ISSUER, SUCCESSORS, TABLES, compact, exception, moment, record, relationship)
+from checks.common.file_servers import Files
+from checks.common.inputs import ISSUER, SUCCESSORS, TABLES, compact, exception, moment, record, relationship
 from checks.common.programs import ROOT
 from checks.common.servers import Server
 from checks.files import export, finish, start
@@ -274,6 +275,19 @@ def check_missing(run, postgres, register, folder):
         (run.folder / "away").rename(folder / delta)
 
 
+def check_http(run, postgres, register, folder):
+    """Takes a publication from a server, by its deltas, and then another one whose delta the server doesn't have."""
+    for what, lost, how in (("", None, "the deltas"), (", which lacks a delta", "gone", "its copies")):
+        register.publish(folder)
+        path = f"rr/{register.number - 1}-{register.number}.json"
+        with Files(folder, lambda asked, _: lost if asked.strip("/") == path else None) as server:
+            status, written = take(postgres, server.url)
+        run.report.holds(f"from a server{what} a publication is taken by {how}",
+                         (status, is_whole(postgres, register, run.folder / "out")) == (0, (register.number, True))
+                         and f"took publication {register.number} by {how}" in written
+                         and (path in written) == bool(lost), written)
+
+
 def changed_files(folder, base, number):
     """Wrong files by what is wrong with them: the path, its bytes, and whether its SHA-256 is listed."""
     lei, rr = (folder / f"{table}/{base}-{number}.json" for table in ("lei", "rr"))
@@ -408,6 +422,7 @@ def check(run):
         check_history(run, postgres, register, folder)
         check_queries(run, postgres, register)
         check_missing(run, postgres, register, folder)
+        check_http(run, postgres, register, folder)
         check_wrong_files(run, postgres, register, folder)
         check_two(run, postgres, register, folder)
         check_kills(run, postgres, register, folder, run.folder / "early")
