@@ -23,7 +23,8 @@ import time
 
 from checks.common import stores
 from checks.common.file_servers import Files
-from checks.common.inputs import ISSUER, SUCCESSORS, TABLES, compact, exception, moment, record, relationship
+from checks.common.inputs import (EXCEPTION_NAMES, ISSUER, RECORD_NAMES, RELATIONSHIP_NAMES, SUCCESSORS, TABLES,
+                                  compact, exception, moment, record, relationship)
 from checks.common.programs import ROOT
 from checks.common.servers import Server
 from checks.files import export, finish, start
@@ -36,7 +37,7 @@ WAIT = 60
 INTO, EXPORT_QUERY = ROOT / "examples/into_postgres", ROOT / "examples/export_from_postgres.sql"
 PANDAS_PAGE = ROOT / "examples/pandas.md"
 BLOCK = re.compile(r"^```python\n(.*?)^```$", re.M | re.S)
-FIRST_SPECIAL, LAST_SPECIAL = 1_001, 1_006
+FIRST_SPECIAL = 1_001
 ODD_NAME = 'Ünïcode "Ω" \\N \\. {a,b}, 株式会社 😀'
 
 
@@ -229,9 +230,17 @@ def check_history(run, postgres, register, folder):
 
 
 def check_queries(run, postgres, register):
-    """The types of columns, the index by words, and the documented names."""
+    """The columns with their types and comments, the keys, and the index by words."""
     lei = record(FIRST_SPECIAL)["LEI"]
     ask = postgres.ask
+    for table, names in zip(TABLES, (RECORD_NAMES, RELATIONSHIP_NAMES, EXCEPTION_NAMES)):
+        columns = ask("SELECT col_description(attrelid, attnum), format_type(atttypid, atttypmod) FROM pg_attribute "
+                      f"WHERE attrelid = 'leireg.{table}'::regclass AND attnum > 0 ORDER BY attnum")
+        fields = [line.split("|") for line in columns.splitlines()]
+        moments = [name for name, kind in fields if kind == "timestamp with time zone"]
+        run.report.equal(f"{table} has a column for each field, and moments are moments",
+                         ([name for name, _ in fields], moments),
+                         (names, [name for name in names if name.endswith("Date")]))
     run.report.equal("the first moment is a moment, and an absent field is NULL",
                      ask("SELECT extract(year FROM creation_date AT TIME ZONE 'UTC'), legal_name_language IS NULL, "
                          f"legal_address_region FROM leireg.lei WHERE lei = '{lei}'"), "1|t|null")
