@@ -76,10 +76,10 @@ class Postgres:
                                     **self.user)
 
     def wait(self):
-        """Waits until the database answers, also after it recovered."""
+        """Waits until the database answers, also after it recovered, and no session of a run is left."""
         end = time.monotonic() + WAIT
         while self.process.poll() is None and time.monotonic() < end:
-            if self.psql("-c", "SELECT 1").returncode == 0:
+            if self.ask("SELECT count(*) FROM pg_locks WHERE locktype = 'advisory'") == "0":
                 return
             time.sleep(0.05)
         raise RuntimeError(f"PostgreSQL doesn't answer: {(self.folder.parent / 'postgres.log').read_text()[-2_000:]}")
@@ -98,6 +98,10 @@ class Postgres:
         if self.ask("SELECT to_regclass('leireg.publication')") == "":
             return 0
         return int(self.ask("SELECT coalesce(max(number), 0) FROM leireg.publication"))
+
+    def is_empty(self):
+        """Whether the tables have no rows, or aren't there."""
+        return not any(self.psql("-c", f"SELECT 1 FROM leireg.{table} LIMIT 1").stdout for table in TABLES)
 
     def tables(self, folder):
         """The three tables as the page's query exports them."""
@@ -203,7 +207,7 @@ def take(postgres, source, seconds=120):
 def is_whole(postgres, register, folder):
     """Whether the database has all of one publication, or nothing yet, and which."""
     number = postgres.publication()
-    return number, number == 0 or postgres.tables(folder) == register.copies[number]
+    return number, postgres.tables(folder) == register.copies[number] if number else postgres.is_empty()
 
 
 def check_history(run, postgres, register, folder):
