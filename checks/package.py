@@ -26,6 +26,8 @@ PACKAGING = ROOT / "packaging"
 NEEDED = {"dpkg-deb": "dpkg", "mandoc": "mandoc", "zsh": "zsh", "chroot": "coreutils", "git": "git"}
 GATE = "12345 passed, 0 failed"
 WAIT = 60
+# What the package depends on.
+DEPENDS = ("libc6", "passwd")
 # Lines that bash completes, and what comes.
 LINES = {
     "leireg ": "apply check demo digits group lines mirror search serve",
@@ -50,7 +52,8 @@ ZSH_LINES = {"leireg ": ["apply", "mirror", "serve"], "leireg apply ": ["lei", "
 
 def need(run, needed):
     """Reports each package that isn't installed. Says whether all are."""
-    missing = sorted({package for name, package in needed.items() if not shutil.which(name, path=f"{os.environ['PATH']}:/usr/sbin")})
+    path = f"{os.environ['PATH']}:/usr/sbin"
+    missing = sorted({package for name, package in needed.items() if not shutil.which(name, path=path)})
     return run.report.equal("the packages that this check needs are installed", missing, [])
 
 
@@ -164,7 +167,7 @@ def dpkg(root, *words):
 
 def check_root(run, package, files):
     root = run.folder / "root"
-    names = make_root(root, "libc6", "libgcc-s1", "passwd")
+    names = make_root(root, *DEPENDS)
     run.report.note(f"a clean root of {len(names)} packages")
     before = files_below(root)
     run.report.equal("dpkg installs the package in a clean root", dpkg(root, "-i", package), (0, ""))

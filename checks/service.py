@@ -19,7 +19,7 @@ from checks.common.inputs import ISSUER, accredit, answer_to_accredit, code, com
 from checks.common.programs import ROOT, lines
 from checks.common.roots import make_root
 from checks.common.servers import Server
-from checks.package import build, dpkg, need, sum_of
+from checks.package import DEPENDS, build, dpkg, need, sum_of
 from checks.serving import limit_files
 
 NEEDED = {"curl": "curl", "sqlite3": "sqlite3", "systemd-analyze": "systemd"}
@@ -332,7 +332,9 @@ say store "$(stat -c '%U %a' /var/lib/leireg/register.db)"
 say accredited "$(ask -X PUT http://127.0.0.1:8080/v1/issuers/506700GE1G29325QX363)"
 systemctl start leireg-publish.service; say published $?
 systemctl start leireg-publish.service; say 'published again' $?
-say files "$(ls -d /var/lib/leireg/publish) $(stat -c '%U %a' /var/lib/leireg/publish)"
+say folder "$(stat -c '%U %a' /var/lib/leireg/publish)"
+say manifest "$(grep -o '"latest":[0-9]*' /var/lib/leireg/publish/manifest.json)"
+say index "$(ls /var/lib/leireg/publish/index)"
 say status "$(status)"
 before=$(show MainPID)
 systemctl start leireg-backup.service; say 'backed up' $?
@@ -386,7 +388,9 @@ WANTED = {
     "accredited": answer_to_accredit(1).decode(),
     "published": "0",
     "published again": "0",
-    "files": "/var/lib/leireg/publish leireg 755",
+    "folder": "leireg 755",
+    "manifest": '"latest":1',
+    "index": "1",
     "status": EMPTY_PUBLISHED,
     "backed up": "0",
     "after the backup": "another process serves",
@@ -402,11 +406,22 @@ WANTED = {
 }
 
 
+def groups():
+    """The control groups in which systemd-nspawn runs a container and itself. It leaves them empty."""
+    return set(pathlib.Path("/sys/fs/cgroup").glob("*/payload")) | set(pathlib.Path("/sys/fs/cgroup").glob("*/supervisor"))
+
+
+def remove_groups(made):
+    for group in made:
+        for folder, _, _ in os.walk(group, topdown=False):
+            os.rmdir(folder)
+
+
 def check_container(run):
     """Starts systemd in a container where the package is installed, and the trial as a unit of it."""
     _, package, _ = build(run, "built")
     root = run.folder / "container"
-    make_root(root, "libc6", "libgcc-s1", "passwd", "systemd", "dbus", "curl", "sqlite3", "python3")
+    make_root(root, *DEPENDS, "systemd", "dbus", "curl", "sqlite3", "python3")
     if not run.report.equal("the package is installed in a container", dpkg(root, "-i", package), (0, "")):
         return
     (root / "trial").write_text(TRIAL)
@@ -415,6 +430,7 @@ def check_container(run):
     (root / "etc/systemd/system/trial.service").write_text(UNIT)
     command = ["systemd-nspawn", "-D", root, "--register=no", "--keep-unit", "--private-network", "--console=pipe", "-b",
                "systemd.unit=trial.service"]
+    before = groups()
     container = subprocess.Popen(command, stdin=subprocess.DEVNULL, stdout=subprocess.PIPE, stderr=subprocess.STDOUT)
     try:
         told = container.communicate(timeout=900)[0].decode(errors="replace")
@@ -422,6 +438,7 @@ def check_container(run):
         if container.poll() is None:
             container.kill()
             container.wait()
+        remove_groups(groups() - before)
     out = root / "trial.out"
     seen = dict(line.split(": ", 1) for line in out.read_text().splitlines()) if out.exists() else {"no trial": told}
     for name, wanted in WANTED.items():

@@ -2,7 +2,6 @@
 as they are installed on this machine."""
 from __future__ import annotations
 
-import contextlib
 import os
 import pathlib
 import re
@@ -101,12 +100,3 @@ def files_below(root):
         if not below.startswith(left_out):
             found |= {os.path.normpath(os.path.join(below, name)) for name in names}
     return found
-
-
-@contextlib.contextmanager
-def a_root(root, *names):
-    """A root that is removed again."""
-    try:
-        yield make_root(root, *names)
-    finally:
-        shutil.rmtree(root, ignore_errors=True)
