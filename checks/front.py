@@ -14,6 +14,7 @@ import csv
 import dataclasses
 import http.client
 import json
+import pathlib
 import shutil
 import socket
 import ssl
@@ -28,6 +29,8 @@ from checks.common.servers import WAIT, Server, read_all
 
 SITE, ACCOUNTS = ROOT / "packaging/nginx/leireg.conf", ROOT / "packaging/bin/leireg-accounts"
 NAME = "register.example"
+# nginx makes this folder by itself, but none above it.
+CACHE = "/var/lib/nginx/leireg"
 FIRST, SECOND, REVOKED = ISSUERS[:3]
 # The texts of what nginx refuses by itself.
 TEXTS = {403: b"FORBIDDEN", 405: b"METHOD", 413: b"TOO_LONG", 429: b"TOO_MANY_REQUESTS"}
@@ -38,7 +41,7 @@ SLOW, QUICK_SLOW = 25, 6
 CONNECTIONS = 500
 BODIES = {number: compact(records(10 * number, 2, issuer=FIRST)) for number in (1, 2, 3)}
 OTHER_BODY = compact(records(100, 1, issuer=SECOND))
-PAGE, FILE, MANIFEST = b"<!doctype html>\n", b'{"records":[]}', b'{"latest":1}'
+PAGE, FILE, MANIFEST = b"<!doctype html>\n", b'{"publication":1,"records":[]}', b'{"latest":1}'
 
 
 @dataclasses.dataclass
@@ -102,7 +105,7 @@ REFUSED = [
     Try("a certificate of another authority", "stranger", "PUT", upload(FIRST, 4), 400, b"CERTIFICATE", BODIES[1]),
     Try("even to read", "stranger", "GET", "/v1/status", 400, b"CERTIFICATE"),
     Try("a certificate of yesterday", "expired", "PUT", upload(FIRST, 4), 400, b"CERTIFICATE", BODIES[1]),
-    Try("a certificate that was revoked", REVOKED, "PUT", upload(REVOKED, 1), 400, b"CERTIFICATE", BODIES[1]),
+    Try("a certificate that was revoked", "revoked", "PUT", upload(REVOKED, 1), 400, b"CERTIFICATE", BODIES[1]),
     Try("a certificate with two names", "double", "PUT", upload(FIRST, 4), 403, None, BODIES[1]),
     Try("DELETE", "publisher", "DELETE", f"/v1/issuers/{FIRST}", 405),
     Try("POST", FIRST, "POST", upload(FIRST, 4), 405, None, BODIES[1]),
@@ -123,6 +126,8 @@ REFUSED = [
     Try("a slash at the end", None, "GET", "/v1/status/", 404, NO_ROUTE),
     Try("capital letters", None, "GET", "/V1/status", 404),
     Try("a way out of the files", None, "GET", "/publish/..%2f..%2fetc/passwd", 400),
+    Try("a published file that isn't whole yet", None, "GET", "/publish/.new/1.json", 404),
+    Try("and one below a folder", None, "GET", "/publish/lei/.new/1.json", 404),
     Try("another origin", None, "GET", "/v1/status", 403, None, None, {"Origin": "https://other.example"}),
     Try("another name", None, "GET", "/v1/status", 421, None, None, {"Host": "other.example"}),
     Try("a body that is too long", FIRST, "PUT", upload(FIRST, 4), 413, None, b" " * 4_194_305),
@@ -162,8 +167,12 @@ def make_certificate(folder, name, issued_by, subject, *words):
 
 def make_accounts(folder):
     """The authority with its accounts by leireg-accounts, and certificates that don't count."""
-    for words in (["init"], ["init"], ["add", "publisher"], *(["add", issuer] for issuer in ISSUERS[:3]), ["add", FIRST],
-                  ["revoke", REVOKED]):
+    for words in (["init"], ["init"], ["add", "publisher"], *(["add", issuer] for issuer in ISSUERS[:3]),
+                  ["add", FIRST]):
+        subprocess.run([ACCOUNTS, folder, *words], check=True, capture_output=True)
+    for kind in ("key", "pem"):
+        shutil.copyfile(folder / f"{REVOKED}.{kind}", folder / f"revoked.{kind}")
+    for words in (["revoke", REVOKED], ["revoke", REVOKED], ["add", REVOKED]):
         subprocess.run([ACCOUNTS, folder, *words], check=True, capture_output=True)
     names = folder / "names"
     names.write_text(f"subjectAltName=DNS:{NAME},DNS:localhost\n")
@@ -184,7 +193,7 @@ def site_of(folder, port, upstream, **others):
     places = {
         **others, "listen 443 ": f"listen 127.0.0.1:{port} ", "/etc/leireg/tls": folder / "tls",
         "127.0.0.1:8080": f"127.0.0.1:{upstream}", "/usr/share/leireg/page": folder / "page",
-        "/var/lib/leireg/publish": folder / "publish", "/var/cache/nginx/leireg": folder / "cache",
+        "/var/lib/leireg/publish": folder / "publish", CACHE: folder / "cache",
     }
     for place, own in places.items():
         if place not in text:
@@ -263,6 +272,9 @@ def front(run, **others):
     (folder / "tls").mkdir()
     (folder / "page" / "index.html").write_bytes(PAGE)
     (folder / "publish" / "lei" / "1.json").write_bytes(FILE)
+    for place in ("publish", "publish/lei"):
+        (folder / place / ".new").mkdir()
+        (folder / place / ".new" / "1.json").write_bytes(FILE[:5])
     (folder / "publish" / "manifest.json").write_bytes(MANIFEST)
     make_accounts(folder / "tls")
     with Server(run.program, workers=8) as server:
@@ -318,6 +330,13 @@ def is_cut_off(site, name, context):
     return False
 
 
+def compare_accounts(run, site):
+    """What is made again after it was revoked has another key. nginx finds the folder above its cache."""
+    made, revoked = (site.certificate(who)[1].read_bytes() for who in (REVOKED, "revoked"))
+    run.report.holds("a revoked account that is made again has another key", made and made != revoked)
+    run.report.holds("Debian's nginx has the folder above the cache", pathlib.Path(CACHE).parent.is_dir())
+
+
 def compare_heads(run, site):
     """The headers that a browser has to get, and how long files may be kept."""
     kept = {"/": None, "/publish/lei/1.json": "public, max-age=31536000, immutable", "/publish/manifest.json": "no-cache"}
@@ -325,8 +344,10 @@ def compare_heads(run, site):
         client = http.client.HTTPSConnection(NAME, site.port, timeout=WAIT)
         client.sock = site.connect()
         with contextlib.closing(client):
-            client.request("GET", target)
+            client.request("GET", target, headers={"Accept-Encoding": "gzip"})
             heads = client.getresponse().headers
+        run.report.equal(f"{target} tells caches how it is encoded", (heads["Content-Encoding"], heads["Vary"]),
+                         ("gzip", "Accept-Encoding") if target.endswith("/1.json") else (None, None))
         run.report.equal(f"{target} may be kept so long", heads["Cache-Control"], wanted)
         strict = heads["Content-Security-Policy"].startswith("default-src 'none'; script-src 'self'")
         run.report.holds(f"{target} comes with the policy", strict and heads["X-Content-Type-Options"] == "nosniff"
@@ -440,6 +461,7 @@ def read_beside(site, act):
 def check(run):
     with front(run) as (site, nginx):
         try_all(run, site)
+        compare_accounts(run, site)
         compare_heads(run, site)
         read_at_once(run, site, nginx)
         publish_again(run, site)
