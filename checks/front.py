@@ -3,9 +3,9 @@
 The check makes an authority, accounts of two issuers and of a publisher, and certificates that don't count. By curl,
 by Python's http.client and by bytes of its own it does what is allowed and what isn't: in other names, by other methods,
 over targets that two readers take differently, and too often. What is refused changes nothing. 200 readers of a copy at
-once have the register asked once, and a copy is never older than five seconds. slowhttptest keeps 500 connections busy
-in each of its modes, and the service stays available to its own probe. Debian's packages nginx-light, curl, openssl and
-slowhttptest have to be there."""
+once, twice, have the register asked once for each five seconds, and a copy is never older than these. slowhttptest keeps
+500 connections busy in each of its modes, and the service stays available to its own probe. Debian's packages nginx-light,
+curl, openssl and slowhttptest have to be there."""
 from __future__ import annotations
 
 import concurrent.futures
@@ -36,7 +36,10 @@ FIRST, SECOND, REVOKED = ISSUERS[:3]
 TEXTS = {403: b"FORBIDDEN", 405: b"METHOD", 413: b"TOO_LONG", 429: b"TOO_MANY_REQUESTS"}
 NO_ROUTE = b"NO_ROUTE"
 READERS, QUICK_READERS = 200, 20
-KEPT_SECONDS, UPLOADS = 5, 60
+KEPT_SECONDS = 5
+# How much is sent at once to exceed a limit: uploads of an account, requests of an address, bodies that don't come.
+UPLOADS, REQUESTS, BODIES_TO_COME = 60, 400, 150
+MOST_UNDER_WAY = 100
 SLOW, QUICK_SLOW = 25, 6
 CONNECTIONS = 500
 BODIES = {number: compact(records(10 * number, 2, issuer=FIRST)) for number in (1, 2, 3)}
@@ -86,6 +89,8 @@ ALLOWED = [
     Try("and one in JSON", None, "GET", "/v1/copies/rr/json", 200),
     Try("and a delta", None, "GET", "/v1/deltas/1/repex/json", 200),
     Try("and a refusal of the register", None, "GET", f"/v1/records/{code(9)}", 404, b"LEI_UNKNOWN"),
+    Try("one with more headers than the register takes", None, "GET", "/v1/status", 200, None, None,
+        {f"X-{number}": "y" for number in range(40)}),
     Try("a page of this origin asks", None, "GET", "/v1/status", 200, None, None, {"Origin": f"https://{NAME}"}),
     Try("anybody gets the page", None, "GET", "/", 200, PAGE),
     Try("and its head", None, "HEAD", "/", 200, b""),
@@ -138,6 +143,7 @@ BYTES = [
     ("an absolute target of another name", f"GET https://other.example/v1/status HTTP/1.1\r\n{PLAIN}\r\n", 421),
     ("two names", f"GET /v1/status HTTP/1.1\r\n{PLAIN}Host: other.example\r\n\r\n", 400),
     ("no name", "GET /v1/status HTTP/1.1\r\n\r\n", 400),
+    ("no name in HTTP/1.0", "GET /v1/status HTTP/1.0\r\n\r\n", 421),
     ("a method in small letters", f"get /v1/status HTTP/1.1\r\n{PLAIN}\r\n", 400),
     ("TRACE", f"TRACE /v1/status HTTP/1.1\r\n{PLAIN}\r\n", 405),
     ("CONNECT", f"CONNECT 127.0.0.1:80 HTTP/1.1\r\n{PLAIN}\r\n", 400),
@@ -234,10 +240,21 @@ class Front:
         text, _, status = done.stdout.rpartition(b"\n")
         return int(status), b"" if each.method == "HEAD" else text
 
-    def connect(self, who=None, name=NAME, context=None):
-        """A connection by TLS that asks for a name."""
-        peer = socket.create_connection(("127.0.0.1", self.port), WAIT)
+    def connect(self, who=None, name=NAME, context=None, address="127.0.0.1"):
+        """A connection by TLS that asks for a name, from an address of this machine."""
+        peer = socket.create_connection(("127.0.0.1", self.port), WAIT, (address, 0))
         return (context or self.context(who)).wrap_socket(peer, server_hostname=name)
+
+    def at_once(self, sent, addresses, who=None, beside=lambda: None):
+        """What comes back over a connection from each address, after the same bytes were sent on all. Something is done
+        beside it, before any response is read."""
+        context = self.context(who)
+        with contextlib.ExitStack() as peers:
+            several = [peers.enter_context(self.connect(context=context, address=address)) for address in addresses]
+            for peer in several:
+                peer.sendall(sent)
+            beside()
+            return [read_all(peer) for peer in several]
 
     def by_client(self, each):
         """The status and the text of a response to Python's http.client."""
@@ -306,11 +323,13 @@ def try_all(run, site):
                 compare(run, each, ask)
     for what, sent, status in BYTES:
         run.report.equal(f"{what} is answered {status}", site.by_bytes(sent), status)
-    for what, name, context in (("a name in TLS that isn't the register's", "other.example", None),
-                                ("TLS 1.0", NAME, old_context())):
-        run.report.holds(f"{what} gets no connection", is_cut_off(site, name, context))
+    for what, name, context, alert in (
+            ("a name in TLS that isn't the register's", "other.example", site.context(), "TLSV1_UNRECOGNIZED_NAME"),
+            ("no name in TLS", None, site.context(), "TLSV1_UNRECOGNIZED_NAME"),
+            ("TLS 1.0", NAME, old_context(), "TLSV1_ALERT_PROTOCOL_VERSION")):
+        run.report.equal(f"{what} gets no connection", alert_of(site, name, context), alert)
     run.report.equal("and nothing has changed", site.ask("/v1/status"), before)
-    run.report.note(f"{len(ALLOWED)} requests that are allowed, {len(REFUSED) + len(BYTES) + 2} that aren't")
+    run.report.note(f"{len(ALLOWED)} requests that are allowed, {len(REFUSED) + len(BYTES) + 3} that aren't")
 
 
 def old_context():
@@ -321,13 +340,14 @@ def old_context():
     return context
 
 
-def is_cut_off(site, name, context):
-    """Whether a connection by TLS isn't made."""
+def alert_of(site, name, context):
+    """By which alert nginx refuses a connection by TLS, or nothing if it makes it."""
+    context.check_hostname = False
     try:
         site.connect(None, name, context).close()
-    except ssl.SSLError:
-        return True
-    return False
+    except ssl.SSLError as refused:
+        return refused.reason
+    return None
 
 
 def compare_accounts(run, site):
@@ -354,39 +374,56 @@ def compare_heads(run, site):
                          and heads["Strict-Transport-Security"] == "max-age=31536000", heads)
 
 
-def exceed_rates(run, site):
-    """An issuer that sends many uploads at once is told so, and a reader isn't."""
-    head = f"PUT {upload(FIRST, 1)} HTTP/1.1\r\n{PLAIN}Content-Length: {len(BODIES[1])}\r\nConnection: close\r\n\r\n"
-    with contextlib.ExitStack() as peers:
-        several = [peers.enter_context(site.connect(FIRST)) for _ in range(UPLOADS)]
-        for peer in several:
-            peer.sendall(head.encode() + BODIES[1])
-        status, _ = site.ask("/v1/status")
-        found = [read_all(peer) for peer in several]
-    good = [came for came in found if came.startswith(b"HTTP/1.1 200 ") and came.endswith(taken(3, 1, FIRST, 2))]
-    refused = [came for came in found if came.startswith(b"HTTP/1.1 429 ") and came.endswith(TEXTS[429])]
-    run.report.holds("too many uploads at once are refused by name, and the others taken",
-                     good and refused and len(good) + len(refused) == UPLOADS, found[:2])
-    run.report.equal("a reader is answered meanwhile", status, 200)
-    run.report.note(f"{len(refused)} of {UPLOADS} uploads at once were refused")
+def exceed_limits(run, site):
+    """Who sends too much at once is told so by name, and what is within the limit is answered. A reader at another address
+    is answered meanwhile."""
+    upload_again = f"PUT {upload(FIRST, 1)} HTTP/1.1\r\n{PLAIN}Content-Length: {len(BODIES[1])}\r\nConnection: close\r\n\r\n"
+    ask = f"GET / HTTP/1.1\r\n{PLAIN}"
+    unfinished = f"GET /v1/status HTTP/1.1\r\n{PLAIN}Content-Length: 10\r\n\r\n"
+
+    def read_beside():
+        run.report.equal("a reader is answered meanwhile", site.ask("/v1/status")[0], 200)
+
+    found = site.at_once(upload_again.encode() + BODIES[1], ["127.0.0.2"] * UPLOADS, FIRST, read_beside)
+    taken_ones = [came for came in found if came.startswith(b"HTTP/1.1 200 ") and came.endswith(taken(3, 1, FIRST, 2))]
+    compare_refusals(run, f"uploads of an account, of {UPLOADS}", found, len(taken_ones))
+    [found] = site.at_once(f"{ask}\r\n".encode() * (REQUESTS - 1) + f"{ask}Connection: close\r\n\r\n".encode(), ["127.0.0.3"],
+                           None, read_beside)
+    found = [b"HTTP/1.1 " + came for came in found.split(b"HTTP/1.1 ")[1:]]
+    compare_refusals(run, f"requests of an address, of {REQUESTS}", found, sum(came.endswith(PAGE) for came in found))
+    found = site.at_once(unfinished.encode(), ["127.0.0.4"] * BODIES_TO_COME, None, read_beside)
+    compare_refusals(run, f"requests under way, of {BODIES_TO_COME}", found, found.count(b""))
+    run.report.equal("an address has so many under way, and they end", found.count(b""), MOST_UNDER_WAY)
+
+
+def compare_refusals(run, what, found, within):
+    """Compares what came back for too much at once: some was within the limit, and the rest was refused by name."""
+    refused = sum(came.startswith(b"HTTP/1.1 429 ") and came.endswith(TEXTS[429]) for came in found)
+    run.report.holds(f"too many {what}, are refused by name", within and refused and within + refused == len(found), found[-2:])
+    run.report.note(f"{refused} of {len(found)} {what.partition(',')[0]} were refused")
 
 
 # ---- the cache
 
 
-def read_at_once(run, site, nginx):
-    """Many readers of a copy at once have the same bytes, and the register is asked once."""
+def read_at_once(run, site, nginx, publication):
+    """Many readers of a copy at once, each at an address of its own, have the same bytes, and the register is asked once for
+    each five seconds that this takes."""
     count, target = QUICK_READERS if run.is_quick else READERS, "/v1/copies/lei/json"
-    begun = time.monotonic()
-    with concurrent.futures.ThreadPoolExecutor(count) as pool:
-        found = list(pool.map(lambda _: site.ask(target), range(count)))
-    took = time.monotonic() - begun
-    rows = json.loads(found[0][1])["records"] if found[0][0] == 200 else []
+    before = nginx.log()
+    begun = time.time()
+    found = site.at_once(f"GET {target} HTTP/1.1\r\n{PLAIN}Connection: close\r\n\r\n".encode(),
+                         [f"127.0.0.{2 + place}" for place in range(count)])
+    ended = time.time()
+    texts = {came.partition(b"\r\n\r\n")[2] for came in found}
+    copy = json.loads(texts.pop()) if all(came.startswith(b"HTTP/1.1 200 ") for came in found) else {}
     wanted = [record(number, issuer=SECOND if number == 100 else FIRST) for number in (10, 11, 20, 21, 30, 31, 100)]
-    run.report.equal("readers at once get the copy", (rows, [each for each in found if each != found[0]]), (wanted, []))
-    asked = [line for line in nginx.log() if line[1:3] == ["GET", target] and line[3] != "HIT"]
-    run.report.holds("the register is asked once in five seconds", 0 < len(asked) <= 1 + took // KEPT_SECONDS, asked)
-    run.report.note(f"{count} readers at once were served in {took:.2f} s")
+    run.report.equal("readers at once get the copy", (copy.get("publication"), copy.get("records"), texts),
+                     (publication, wanted, set()))
+    asked = [line for line in nginx.log()[len(before):] if line[1:3] == ["GET", target] and line[3] != "HIT"]
+    times = int(ended // KEPT_SECONDS) - int(begun // KEPT_SECONDS) + 1
+    run.report.holds("the register is asked once for each five seconds", 0 < len(asked) <= times, (asked, times))
+    run.report.note(f"{count} readers at once were served in {ended - begun:.2f} s")
 
 
 def publish_again(run, site):
@@ -401,6 +438,15 @@ def publish_again(run, site):
     run.report.equal("the second publication is made", (status, seen[-1]), (201, 2))
     run.report.holds(f"a copy of it comes within {KEPT_SECONDS} seconds and one", took < KEPT_SECONDS + 1, took)
     run.report.equal("and none of the first after it", json.loads(site.ask("/v1/copies/repex/json")[1])["publication"], 2)
+
+
+def end_register(run, site):
+    """Without the register there are still the page and the published files."""
+    site.server.end()
+    for each in (Try("without the register a record", None, "GET", f"/v1/records/{code(10)}", 503, b"UNAVAILABLE"),
+                 Try("and the page", None, "GET", "/", 200, PAGE),
+                 Try("and a published file", None, "GET", "/publish/lei/1.json", 200, FILE)):
+        compare(run, each, site.by_client)
 
 
 # ---- slow peers
@@ -463,9 +509,11 @@ def check(run):
         try_all(run, site)
         compare_accounts(run, site)
         compare_heads(run, site)
-        read_at_once(run, site, nginx)
+        read_at_once(run, site, nginx, 1)
         publish_again(run, site)
-        exceed_rates(run, site)
+        read_at_once(run, site, nginx, 2)
+        exceed_limits(run, site)
+        end_register(run, site)
     if shutil.which("slowhttptest") is None:
         raise RuntimeError("slowhttptest isn't there: it is a package of Debian")
     read_slowly(run)
