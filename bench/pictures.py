@@ -50,9 +50,9 @@ def label(axes, ends):
                       annotation_clip=False)
 
 
-def use_plain_ticks(axis):
-    """Puts the ticks of an axis of logarithms at 1, 2 and 5 times the powers of ten, written as plain numbers."""
-    axis.set_major_locator(ticker.LogLocator(subs=(1, 2, 5)))
+def use_plain_ticks(axis, *times):
+    """Puts the ticks of an axis of logarithms at so many times the powers of ten, written as plain numbers."""
+    axis.set_major_locator(ticker.LogLocator(subs=times))
     axis.set_major_formatter(ticker.FuncFormatter(lambda value, _: f"{value:,.0f}" if value >= 1 else f"{value:g}"))
     axis.set_minor_locator(ticker.NullLocator())
 
@@ -63,10 +63,10 @@ def draw(name, title, x_label, y_label, lines, ticks=None, has_one=False):
         height = max(3.5, 0.22 * len(lines) + 1.5)
         figure, axes = pyplot.subplots(figsize=(8, height))
         axes.set_yscale("log")
-        use_plain_ticks(axes.yaxis)
+        use_plain_ticks(axes.yaxis, 1, 2, 5)
         if ticks is None:
             axes.set_xscale("log")
-            use_plain_ticks(axes.xaxis)
+            use_plain_ticks(axes.xaxis, 1)
         else:
             axes.set_xticks(range(len(ticks)), ticks, rotation=60, ha="right")
             axes.set_xlim(-0.3, len(ticks) - 0.7)
@@ -79,7 +79,7 @@ def draw(name, title, x_label, y_label, lines, ticks=None, has_one=False):
         axes.set_title(title, loc="left", fontsize=10)
         axes.set_xlabel(x_label)
         axes.set_ylabel(y_label)
-        figure.subplots_adjust(left=0.09, right=0.66, top=1 - 0.35 / height, bottom=(1.1 if ticks else 0.6) / height)
+        figure.subplots_adjust(left=0.1, right=0.66, top=1 - 0.35 / height, bottom=(1.1 if ticks else 0.6) / height)
         figure.canvas.draw()
         label(axes, ends)
         FOLDER.mkdir(exist_ok=True)
