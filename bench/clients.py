@@ -2,43 +2,22 @@
 from __future__ import annotations
 
 import contextlib
-import grp
 import http.client
 import json
 import os
-import pwd
 import re
-import socket
 import subprocess
-import time
 
 from bench.tools import in_c
 from bench.trials import Side, Wrong
 from checks.common.inputs import STATUS
+from checks.common.nginx import Nginx, free_port
 from checks.common.programs import Spent, peak, processor_seconds
 from checks.common.servers import WAIT, Server
 
-NGINX = """
-daemon off;
-master_process off;
-{user}
-pid {folder}/nginx.pid;
-error_log {folder}/error.log;
-events {{ worker_connections 64; }}
-http {{
-    access_log off;
-    sendfile on;
-    default_type text/csv;
-    client_body_temp_path {folder}/body;
-    proxy_temp_path {folder}/proxy;
-    fastcgi_temp_path {folder}/fastcgi;
-    uwsgi_temp_path {folder}/uwsgi;
-    scgi_temp_path {folder}/scgi;
-    server {{
-        listen 127.0.0.1:{port};
-        root {folder}/files;
-    }}
-}}
+SITE = """sendfile on;
+default_type text/csv;
+server {{ listen 127.0.0.1:{port}; access_log off; root {folder}/files; }}
 """
 
 
@@ -64,35 +43,12 @@ def printing_port(words):
             process.kill()
 
 
-def free_port():
-    with socket.create_server(("127.0.0.1", 0)) as taken:
-        return taken.getsockname()[1]
-
-
-def wait_for(port, process):
-    """Waits until a port takes connections."""
-    end = time.monotonic() + WAIT
-    while time.monotonic() < end and process.poll() is None:
-        with contextlib.suppress(OSError), socket.create_connection(("127.0.0.1", port), 1):
-            return
-        time.sleep(0.02)
-    raise Wrong("the server doesn't listen")
-
-
 @contextlib.contextmanager
 def nginx(folder):
     """nginx with one process, which serves the files below the folder `files` of this one."""
-    port, me = free_port(), os.getuid()
-    user = "" if me else f"user {pwd.getpwuid(me).pw_name} {grp.getgrgid(os.getgid()).gr_name};"
-    config = folder / "nginx.conf"
-    config.write_text(NGINX.format(user=user, folder=folder, port=port))
-    words = ["nginx", "-p", folder, "-c", config, "-e", folder / "error.log"]
-    with subprocess.Popen(list(map(str, words)), stderr=subprocess.DEVNULL) as process:
-        try:
-            wait_for(port, process)
-            yield port, process.pid
-        finally:
-            process.terminate()
+    port = free_port()
+    with Nginx(folder / "nginx", f"127.0.0.1:{port}", SITE.format(folder=folder, port=port)) as server:
+        yield port, server.process.pid
 
 
 # ---- sides
