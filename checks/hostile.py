@@ -57,8 +57,9 @@ def model_replies(requests, replies, start):
 
 def moments_outside(requests, replies, start):
     """The moments of publications that aren't in order, or not in the time of the run, which ends now."""
-    moments = {request.number: publication_moment(request, reply) for request, reply in zip(with_replies(requests), replies)}
-    named = [start, *(moment for moment in moments.values() if moment), int(time.time())]
+    found = [(request.number, publication_moment(request, reply)) for request, reply in zip(with_replies(requests), replies)]
+    moments = {number: moment for number, moment in found if moment}
+    named = [start, *(moments[number] for number in sorted(moments)), int(time.time())]
     return None if named == sorted(named) else named
 
 
