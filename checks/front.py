@@ -469,7 +469,7 @@ def read_slowly(run):
 
 
 def slow_test(run, site, mode, seconds):
-    """Runs slowhttptest, and compares what its probe saw in each second."""
+    """Runs slowhttptest, and compares what its probe saw in each second. It ends early if all connections are closed."""
     out = run.folder / f"slow-{mode}"
     target = "/v1/copies/lei/csv" if mode in "RX" else "/v1/status"
     command = ["slowhttptest", f"-{mode}", "-c", CONNECTIONS, "-r", 200, "-l", seconds, "-p", 2, "-i", 5, "-x", 24, "-g",
@@ -479,7 +479,7 @@ def slow_test(run, site, mode, seconds):
         rows = list(csv.DictReader(file))
     down = [row for row in rows if int(row["Service Available"]) == 0]
     most = max((int(row["Connected"]) for row in rows), default=0)
-    run.report.equal(f"slowhttptest -{mode} finds the service available", (down, len(rows) > seconds // 2), ([], True))
+    run.report.equal(f"slowhttptest -{mode} finds the service available", (down, len(rows) > 1), ([], True))
     run.report.note(f"-{mode} had up to {most} connections at once")
 
 
