@@ -20,7 +20,6 @@ EXPLAINED = {
     "issuer_http Scratch::new": "it is only memory that is used again; no clause of its calls depends on it",
     "program_words help_of": "what a person reads on the standard error is free text",
     "program_words tell": "what a person reads on the standard error is free text",
-    "register_state accepted_items": "the tests of uploads that are judged ahead compare it; it has no clause yet",
 }
 LEAST = 500
 

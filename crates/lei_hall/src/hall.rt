@@ -214,7 +214,6 @@ impl<K: Keeper> Hall<K> {
     pub fn meet<R: Threads + Wait + Sync>(&self, rt: &R, first: Pass, second: Pass) -> (Pass, Pass)
         requires first { first.table ≡ self.now.table }
         requires second { second.table ≡ self.now.table }
-        requires limits { first.stays ≡ second.stays }
         requires legal { Legal (seen_by first) × Legal (seen_by second) }
         ensures first { result.0 ≡ with_seen first (longer first.seen second.seen) }
         ensures second { result.1 ≡ with_seen second (longer first.seen second.seen) }

@@ -1,5 +1,5 @@
 -- Uploads that are judged: the outcome of their items, in their turn or ahead of it.
-use Rattle.std.specs.Prelude.{◌≡◌, List, map, Ok}
+use Rattle.std.specs.Prelude.{◌≡◌, Bool, true, false, List, map, Ok}
 use Rattle.item_fields.specs.Items.{ready}
 use Rattle.lei_records.specs.RuleNumbers.{newest, rules_of}
 use Rattle.item_fields.specs.declared.item.RawItem.{RawItem}
@@ -13,6 +13,7 @@ use Rattle.register_judge.specs.Sittings.{sitting_by}
 use Rattle.register_judge.specs.Taking.{take}
 use Rattle.register_judge.specs.declared.outcome.Outcome.{Outcome}
 use Rattle.register_judge.specs.declared.outcome.Plan.{Plan}
+use Rattle.register_judge.specs.declared.outcome.Verdict.{Verdict}
 use Rattle.register_state.specs.Judging.{ShowsTaken}
 use Rattle.register_words.specs.declared.request.Call.{Call}
 use Rattle.upload_format.specs.Bodies.{upload}
@@ -30,6 +31,11 @@ pub record IsPlanOf (call : Call) (plan : Plan) : Type 0 where
   pub raws : List RawItem
   pub reads : upload call.body ≡ Ok raws
   pub agreed : IsAgreed plan.outcome 4294967295 plan.today call.office (map (ready newest) raws)
+
+-- The item is accepted.
+abbrev pub is_accepted : Verdict → Bool
+is_accepted Verdict.Accepted = true
+is_accepted (Verdict.Rejected check) = false
 
 -- The upload's body has a reading, and the outcome is that of its items on these terms on the office's table.
 pub record IsTakenBy (office : OfficeState) (call : Call) (terms : EntryTerms) (outcome : Outcome) : Type 0 where

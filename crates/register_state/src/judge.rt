@@ -48,6 +48,8 @@ pub fn is_usable(table: &Table, records: u32, moment: i64, plan: &Plan) -> bool
     ensures agrees { IsTrue result → Agrees plan.now.outcome.reads (rows table.now.held) }
     ensures fits { IsTrue result
         → record_count (rows table.now.held) + plan.now.outcome.new_records ≤ records }
+    ensures used { plan.now.today ≡ day_of moment → Agrees plan.now.outcome.reads (rows table.now.held)
+        → record_count (rows table.now.held) + plan.now.outcome.new_records ≤ records → IsTrue result }
 {
     plan.today == day_number(moment)
         && plan.outcome.new_records <= records.saturating_sub(table.held())

@@ -1,6 +1,6 @@
 //! Plans: the outcome of an upload, judged ahead of its turn on a part of the table.
-ghost use Rattle.std.specs.Prelude.{IfSome};
-ghost use Rattle.register_state.specs.Planning.{AreItemsOf, IsPlanOf};
+ghost use Rattle.std.specs.Prelude.{◌≡◌, IfSome, count_by, if◌then◌else◌, min};
+ghost use Rattle.register_state.specs.Planning.{AreItemsOf, IsPlanOf, is_accepted};
 
 use crate::entries::RULES;
 use lei_records::{Readied, View};
@@ -41,13 +41,29 @@ pub fn plan_of<V: View>(
     }
 }
 
-/// The number of items that a plan accepts.
-pub fn accepted_items(plan: &Plan) -> u32 {
+/// The number of items that a plan accepts. It stops at `u32::MAX`.
+pub fn accepted_items(plan: &Plan) -> u32
+    ensures { result ≡ min (count_by is_accepted plan.now.outcome.verdicts) 4294967295 }
+{
+    count_accepted(plan.outcome.verdicts.as_slice())
+}
+
+fn count_accepted(verdicts: &[Verdict]) -> u32
+    ensures { result ≡ min (count_by is_accepted verdicts.now) 4294967295 }
+{
     let mut count: u32 = 0;
-    for verdict in plan.outcome.verdicts.as_slice() {
-        if *verdict == Verdict::Accepted {
-            count = count.saturating_add(1);
-        }
+    for verdict in verdicts {
+        count = count.saturating_add(one_if_accepted(verdict));
     }
     count
+}
+
+// 1 for an accepted item, and 0 for any other.
+fn one_if_accepted(verdict: &Verdict) -> u32
+    ensures { result ≡ if is_accepted verdict.now then 1 else 0 }
+{
+    match verdict {
+        Verdict::Accepted => 1,
+        Verdict::Rejected(_) => 0,
+    }
 }

@@ -9,11 +9,11 @@ use Rattle.turnstile.specs.declared.view.Account.{Account}
 use Rattle.turnstile.specs.declared.view.View.{View}
 use Rattle.turnstile.specs.Lists.{Each, longer}
 use Rattle.turnstile.specs.Meaning.{Meaning}
-use Rattle.turnstile.specs.Rule.{busy, in_turn, passes, number_count, with_number, after_first, only_first, idle_view, left_part, right_part, both_parts, spent_view, ViewFits, IsKept}
+use Rattle.turnstile.specs.Rule.{AccountFits, busy, in_turn, passes, number_count, with_number, after_first, only_first, idle_view, left_part, right_part, both_parts, spent_view, ViewFits, IsKept}
 use Rattle.turnstile.specs.Steps.{Learns}
 use Rattle.turnstile.proofs.Totals.{total_append, total_split, total_join, total_set}
 use Rattle.turnstile.proofs.Prefixes.{prefix_none, longer_of}
-use Rattle.turnstile.proofs.Views.{each_set, each_snoc, Each_append, own_idle, own_snoc, home_set, home_snoc, idle_fits}
+use Rattle.turnstile.proofs.Views.{each_set, each_snoc, Each_append, Each_map, own_idle, own_snoc, home_set, home_snoc, idle_fits}
 
 length_parts : {D : Type 0} (l : List (Account D)) → length (after_first l) + length (only_first l) ≡ length l
 length_parts [] = refl
@@ -109,7 +109,9 @@ module _ {T E D : Type 0} (m : Meaning T E D) (opened : T) (n : ℕ) where
       let l = longer_of v.seen v.aside kept.past.history fits.seen fits.aside in
       let fits' = idle_fits m opened kept.past (longer v.seen v.aside) [] v.accounts l.whole (prefix_none kept.past.history) fits.accounts in
       let counted = total_set busy views id v w at in
-      let shared = total_set passes views id v w at in (
+      let shared = total_set passes views id v w at in
+      let alike = Each_map (AccountFits m opened kept.past.makers kept.past.members) (λ (a : Account D). a.stays ≡ m.stays opened)
+      (λ a fits. fits.stays) v.accounts fits.accounts in (
         w,
         keeps,
         tt,
@@ -128,5 +130,5 @@ module _ {T E D : Type 0} (m : Meaning T E D) (opened : T) (n : ℕ) where
           };
           home = home_set m opened kept.past s.homes views id v w at out kept.home;
         },
-        (refl, l.first, l.second),
+        (refl, l.first, l.second, (m.stays opened, alike)),
       )

@@ -57,8 +57,14 @@ module _ {T E D : Type 0} (m : Meaning T E D) where
 abbrev pub Notifies : {T E D : Type 0} → Step T → Me T (View E D) → ℕ → Me T (View E D) → Type 0
 Notifies st v found w = w ≡ v
 
--- A seat that absorbed another one has seen the longer of the two lists, and both are fronts of it.
+-- The accounts have the same numbers that stay.
+abbrev pub StayAlike : {D : Type 0} → List (Account D) → Type 0
+StayAlike accounts = (stays : List ℕ) × Each (λ a. a.stays ≡ stays) accounts
+
+-- A seat that absorbed another one has seen the longer of the two lists, and both are fronts of it. Its accounts have the
+-- same numbers that stay.
 abbrev pub Learns : {T E D : Type 0} → Step T → Me T (View E D) → ℕ → Me T (View E D) → Type 0
 Learns st v found w =
     (w ≡ (idle_view (longer v.0.seen v.0.aside) [] v.0.accounts, v.1))
     × IsPrefix v.0.seen (longer v.0.seen v.0.aside) × IsPrefix v.0.aside (longer v.0.seen v.0.aside)
+    × StayAlike v.0.accounts

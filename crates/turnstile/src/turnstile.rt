@@ -4,7 +4,7 @@ ghost use Rattle.std.specs.Fn.{FnOnceReturnsAtMut};
 ghost use Rattle.turnstile.specs.Lists.{IsPrefix, longer};
 ghost use Rattle.turnstile.specs.Meaning.{meaning, GoesOn, IsToldSo};
 ghost use Rattle.turnstile.specs.Rule.{idle_view, waiting_view, turn_view, accounts_from};
-ghost use Rattle.turnstile.specs.Steps.{IsIdle, GoesOnFrom, view_after};
+ghost use Rattle.turnstile.specs.Steps.{IsIdle, GoesOnFrom, StayAlike, view_after};
 ghost use Rattle.turnstile.specs.Passes.{PassView, view_of, account_at, with_seen};
 ghost use Rattle.turnstile.specs.Passes.{AreNew, AreOf, HaveAll, AreFronts, IsTurn};
 ghost use Rattle.turnstile.specs.Passes.{IsAdded, IsMadeOnce, AreAdded, AreBetween, AreApart, AreWithin};
@@ -231,6 +231,7 @@ impl<T: Tally> Turnstile<T> {
         ensures first { result.0 ≡ with_seen first (longer first.seen second.seen) }
         ensures second { result.1 ≡ with_seen second (longer first.seen second.seen) }
         ensures fronts { AreFronts first.seen second.seen (longer first.seen second.seen) }
+        ensures stays { first.stays ≡ second.stays }
     {
         let _ = rt;
         let mut seat = first.into_seat();
@@ -251,6 +252,7 @@ impl<T: Tally> Turnstile<T> {
           [],
         ) }
         ensures fronts { AreFronts seat.old.me.0.seen pass.seen (longer seat.old.me.0.seen pass.seen) }
+        ensures stays { StayAlike (account_at pass ∷ seat.old.me.0.accounts) }
     {
         self.table.shared.join_seat::<Parts>(seat, pass.into_seat());
         self.table.shared.load::<Learn>(seat, SERVED);
